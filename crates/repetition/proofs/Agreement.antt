@@ -76,9 +76,11 @@ module _ (t : List ℕ) (p d B M F N : ℕ) (behind : Behind t p d B M) (ahead :
       let same : (k : ℕ) → k < p → Same t p (s + k) =
       λ k h. r .twice k h ∙ same-place t (s + p + k) (s + k + p) (omega arith) in (
         by-contra d (s + B) (λ h.
-            behind .stop (omega arith) (subst (Same t p) {x = s + (d - 1 - B - s)} (omega arith) (same (d - 1 - B - s) (omega arith)))),
+            behind .stop (omega arith)
+            (subst (Same t p) {x = s + (d - 1 - B - s)} (omega arith) (same (d - 1 - B - s) (omega arith)))),
         by-contra (s + p) (d + F) (λ h.
-            ahead .stop (omega arith) (subst (Same t p) {x = s + (d + F - s)} (omega arith) (same (d + F - s) (omega arith)))),
+            ahead .stop (omega arith)
+            (subst (Same t p) {x = s + (d + F - s)} (omega arith) (same (d + F - s) (omega arith)))),
       )
 
   pub near : 1 ≤ p → s + 2 * p ≤ length t → d ≤ s + B → s + p ≤ d + F → Repetition t s p

@@ -8,7 +8,7 @@ use native.Mathlib.Omega.{arith, by-contra}
 use lib.Dec.{eqb}
 use lib.ListN.{length, getD, drop}
 use borrow.Author.Tests.{eqb-true, eqb-false}
-use Rattle.repetition.specs.Tables.{matched, Table, entry}
+use Rattle.repetition.specs.Tables.{matched, Table, match-at}
 
 -- The first m letters agree, and the next two, if both strings have one, do not.
 pub record IsMatch (xs ys : List ℕ) (m : ℕ) : Type 0 where
@@ -34,9 +34,9 @@ matched-is (x ∷ xs) (y ∷ ys) = by-heads (matched-is xs ys) (eqb x y) refl
         }
     by-heads r false other = omega (arith, eqb-false x y other)
 
-pub entry-is : (m : Table) (i : ℕ) → IsMatch (drop i (m .walked)) (m .pattern) (entry m i)
-unfolding entry
-entry-is m i = matched-is (drop i (m .walked)) (m .pattern)
+pub match-at-is : (m : Table) (i : ℕ) → IsMatch (drop i (m .walked)) (m .pattern) (match-at m i)
+unfolding match-at
+match-at-is m i = matched-is (drop i (m .walked)) (m .pattern)
 
 -- no agreement is longer than a match
 le-match : {xs ys : List ℕ} {n : ℕ} → IsMatch xs ys n → (m : ℕ) → m ≤ length xs → m ≤ length ys

@@ -9,26 +9,26 @@ use lib.Dec.{ltb}
 use lib.Seq.{getD-drop}
 use borrow.Author.Tests.{ltb-true, ltb-false, lt-ltb}
 use Rattle.repetition.specs.Numbers.{one-if}
-use Rattle.repetition.specs.Tables.{Table, entry, itself}
+use Rattle.repetition.specs.Tables.{Table, match-at, itself}
 use Rattle.repetition.specs.Comparisons.{Walk, free, scan-cost, scanned, after, table-cost}
-use Rattle.repetition.proofs.Matching.{IsMatch, entry-is, le-matched, matched-unique}
+use Rattle.repetition.proofs.Matching.{IsMatch, match-at-is, le-matched, matched-unique}
 
 -- The record of a walk that stands at position i is true.
 pub record Alive (m : Table) (i : ℕ) (w : Walk) : Type 0 where
   pub from-first : m .first ≤ w .k
   pub before : w .k < i
-  pub end : w .e ≡ w .k + entry m (w .k)
+  pub end : w .e ≡ w .k + match-at m (w .k)
 
 -- the pattern's own match length where the record puts position i
 abbrev pub own : Table → ℕ → Walk → ℕ
-own m i w = entry (itself (m .pattern)) (i - w .k)
+own m i w = match-at (itself (m .pattern)) (i - w .k)
 
 own-is : (m : Table) (i : ℕ) (w : Walk) → IsMatch (drop (i - w .k) (m .pattern)) (m .pattern) (own m i w)
-own-is m i w = entry-is (itself (m .pattern)) (i - w .k)
+own-is m i w = match-at-is (itself (m .pattern)) (i - w .k)
 
 -- the record ends in the walked text
 record-within : (m : Table) (i : ℕ) (w : Walk) → Alive m i w → w .e - i ≤ length (m .walked) - i
-record-within m i w a = omega (arith, entry-is m (w .k), length-drop (w .k) (m .walked))
+record-within m i w a = omega (arith, match-at-is m (w .k), length-drop (w .k) (m .walked))
 
 module _ (m : Table) (i : ℕ) (w : Walk) (a : Alive m i w) (ahead : i < w .e) where
   -- the record's letters, seen from position i
@@ -39,12 +39,12 @@ module _ (m : Table) (i : ℕ) (w : Walk) (a : Alive m i w) (ahead : i < w .e) w
         getD-drop i (m .walked) x 0,
         getD-drop (i - w .k) (m .pattern) x 0,
         getD-drop (w .k) (m .walked) (i - w .k + x) 0,
-        entry-is m (w .k) .agree (i - w .k + x) (omega arith),
+        match-at-is m (w .k) .agree (i - w .k + x) (omega arith),
       )
 
   -- A free position's match length is the pattern's own, and no letter of the walked text is looked at.
-  pub free-length : own m i w < w .e - i → entry m i ≡ own m i w
-  unfolding entry
+  pub free-length : own m i w < w .e - i → match-at m i ≡ own m i w
+  unfolding match-at
   free-length h =
       let r = own-is m i w in
       sym (matched-unique (drop i (m .walked)) (m .pattern) (own m i w) (record {
@@ -52,12 +52,12 @@ module _ (m : Table) (i : ℕ) (w : Walk) (a : Alive m i w) (ahead : i < w .e) w
         within-right = r .within-right;
         agree = λ x l. seen x (omega arith) ∙ r .agree x l;
         stop = λ hx hy e.
-            r .stop (simp length-drop (omega (arith, entry-is m (w .k)))) hy (sym (seen (own m i w) h) ∙ e);
+            r .stop (simp length-drop (omega (arith, match-at-is m (w .k)))) hy (sym (seen (own m i w) h) ∙ e);
       }))
 
   -- The record has the letters before e already.
-  pub scan-start : w .e - i ≤ own m i w → w .e - i ≤ entry m i
-  unfolding entry
+  pub scan-start : w .e - i ≤ own m i w → w .e - i ≤ match-at m i
+  unfolding match-at
   scan-start h =
       let r = own-is m i w in
       le-matched (drop i (m .walked)) (m .pattern) (w .e - i) (simp length-drop (record-within m i w a)) (omega arith)
@@ -74,7 +74,7 @@ unfolding free
 free-false m i w h ahead = ltb-false (own m i w) (w .e - i) (rw (lt-ltb i (w .e) ahead) at h)
 
 -- The same with or without a record: without one, e - i is 0.
-pub scan-from : (m : Table) (i : ℕ) (w : Walk) → (0 < w .e → Alive m i w) → free m i w ≡ false → w .e - i ≤ entry m i
+pub scan-from : (m : Table) (i : ℕ) (w : Walk) → (0 < w .e → Alive m i w) → free m i w ≡ false → w .e - i ≤ match-at m i
 scan-from m i w alive h =
     by-contra _ _ (λ short.
     let ahead : i < w .e = omega arith in
@@ -112,7 +112,7 @@ after-kept m (suc n) = by-test (free m (m .first + n) (after m n)) refl (after-k
     by-test true h r = record { alive = λ p. let a = r .alive p in omega arith; paid = omega arith }
     by-test {w} false h r =
         let i : ℕ = m .first + n in
-        omega (arith, scan-from m i w (r .alive) h, scan-cost-le m i (w .e - i) (entry m i))
+        omega (arith, scan-from m i w (r .alive) h, scan-cost-le m i (w .e - i) (match-at m i))
 
 pub after-alive : (m : Table) (n : ℕ) → 0 < after m n .e → Alive m (m .first + n) (after m n)
 after-alive m n = after-kept m n .alive

@@ -6,7 +6,7 @@ use lib.Dec.{ltb}
 use lib.ListN.{length}
 use Rattle.repetition.specs.Numbers.{one-if, total}
 use Rattle.repetition.specs.Cutting.{Part, cut, parts}
-use Rattle.repetition.specs.Tables.{Table, entry, itself, v-itself, u-back-itself, v-back-against-u-back, u-against-v}
+use Rattle.repetition.specs.Tables.{Table, match-at, itself, v-itself, u-back-itself, v-back-against-u-back, u-against-v}
 
 -- What a walk remembers, the record's position k and end e, and what it has cost so far.
 pub record Walk : Type 0 where
@@ -20,8 +20,8 @@ start = record { k = 0; e = 0; cost = 0 }
 
 -- Position i is free: e > i, and the pattern's own match length at i - k is less than e - i.
 unfoldable pub free : Table → ℕ → Walk → Bool
-unfolding entry
-free m i w = ltb i (w .e) && ltb (entry (itself (m .pattern)) (i - w .k)) (w .e - i)
+unfolding match-at
+free m i w = ltb i (w .e) && ltb (match-at (itself (m .pattern)) (i - w .k)) (w .e - i)
 
 -- The cost of a scan at position i that starts from j and gives L: L - j, and 1 more where a look ended it,
 -- that is, where both the walked text goes on beyond i + L and the pattern beyond L.
@@ -30,12 +30,12 @@ scan-cost m i j L = L - j + one-if (ltb (i + L) (length (m .walked)) && ltb L (l
 
 -- A scan at position i starts from e - i if e > i, else from 0, which is what ℕ's difference gives.
 unfoldable pub scanned : Table → ℕ → Walk → Walk
-unfolding entry scan-cost
+unfolding match-at scan-cost
 scanned m i w =
     record {
       k = i;
-      e = i + entry m i;
-      cost = w .cost + scan-cost m i (w .e - i) (entry m i);
+      e = i + match-at m i;
+      cost = w .cost + scan-cost m i (w .e - i) (match-at m i);
     }
 
 -- one position of the walk

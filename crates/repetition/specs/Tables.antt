@@ -21,9 +21,9 @@ pub record Table : Type 0 where
   pub first : ℕ
 
 -- the match length at position i: the longest string starting there that is a prefix of the pattern
-unfoldable pub entry : Table → ℕ → ℕ
+unfoldable pub match-at : Table → ℕ → ℕ
 unfolding matched
-entry m i = matched (drop i (m .walked)) (m .pattern)
+match-at m i = matched (drop i (m .walked)) (m .pattern)
 
 -- a string against itself: position 0 is not walked
 abbrev pub itself : List ℕ → Table
@@ -62,15 +62,15 @@ around d p back on =
 -- The block of a class and half, read from the first and third table or from the second and fourth.
 -- A right repetition ends at most 2p - 1 letters after the cut, a left one starts at most 2p - 1 before it.
 unfoldable pub read-block : List ℕ → Class → Part → ℕ → List Block
-unfolding cut entry around
+unfolding cut match-at around
 read-block t right q p =
     around (cut-of q) p
-    (entry (v-back-against-u-back t q) (length (right-piece t q) - p))
-    (min (p - 1) (entry (v-itself t q) p))
+    (match-at (v-back-against-u-back t q) (length (right-piece t q) - p))
+    (min (p - 1) (match-at (v-itself t q) p))
 read-block t left q p =
     around (cut-of q - p) p
-    (min (p - 1) (entry (u-back-itself t q) p))
-    (min (p - 1) (entry (u-against-v t q) (length (left-piece t q) - p)))
+    (min (p - 1) (match-at (u-back-itself t q) p))
+    (min (p - 1) (match-at (u-against-v t q) (length (left-piece t q) - p)))
 
 -- the greatest half that a class can have in a part: |v|, and |u| - 1
 unfoldable pub greatest-half : List ℕ → Class → Part → ℕ

@@ -216,6 +216,7 @@ module _ (t : List ℕ) (q : Part) (wide : 2 ≤ q .to - q .from) (inside : q .t
       is-false (new t κ q s p) (λ h. too-great κ p l s (new-true t κ q s p h)) ∙ sym (reaches-none 0 p 0 0 s (omega arith)))
       (omega arith) (λ h. absurd (omega arith))
 
+  -- So the block of any half is around some place.
   pub block-is : (κ : Class) (p : ℕ) → 1 ≤ p → (d : ℕ) × (back : ℕ) × (on : ℕ) × BlockAround t κ q p d back on
   block-is κ p one =
       elim (decLe p (greatest-half t κ q)) [
@@ -223,6 +224,7 @@ module _ (t : List ℕ) (q : Part) (wide : 2 ≤ q .to - q .from) (inside : q .t
         | no l ↦ (0, 0, 0, none-around κ p one (omega arith))
       ]
 
+  -- Law 3.
   pub block-read : (κ : Class) (p : ℕ) → 1 ≤ p → p ≤ greatest-half t κ q → block-of p (starts t κ q p) ≡ read-block t κ q p
   block-read κ p one l = let r = read-around κ p one l in r .3 .block ∙ r .4
 

@@ -73,7 +73,13 @@ pub free-false : (m : Table) (i : ℕ) (w : Walk) → free m i w ≡ false → i
 unfolding free
 free-false m i w h ahead = ltb-false (own m i w) (w .e - i) (rw (lt-ltb i (w .e) ahead) at h)
 
--- The same with or without a record: without one, e - i is 0.
+-- The two cases of the rule, as it tests for them. A free position has a record ..
+pub free-match : (m : Table) (i : ℕ) (w : Walk) → (0 < w .e → Alive m i w) → free m i w ≡ true → match-at m i ≡ own m i w
+free-match m i w alive h =
+    let f = free-true m i w h in
+    free-length m i w (alive (omega arith)) (f .0) (f .1)
+
+-- .. and a scan may have none: then e - i is 0.
 pub scan-from : (m : Table) (i : ℕ) (w : Walk) → (0 < w .e → Alive m i w) → free m i w ≡ false → w .e - i ≤ match-at m i
 scan-from m i w alive h =
     by-contra _ _ (λ short.

@@ -13,6 +13,7 @@ pub record Part : Type 0 where
 unfoldable pub cut : ℕ → ℕ → ℕ
 cut a b = a + (b - a + 1) / 2
 
+-- the cut of a part
 abbrev pub cut-of : Part → ℕ
 cut-of q = cut (q .from) (q .to)
 

@@ -8,7 +8,7 @@
 //    empty exactly when there is none                            empty-list, free-text                        Listing
 // 3  the repetition lemma: blocks read from the tables           block-read, class-read                       Reading
 // 4  match lengths: what they are, and the only ones             matched-is, matched-unique                   Matching
-//    the counting rule's free case and scanning case             free-length, scan-start, scan-from           Walking
+//    the counting rule's free case and scanning case             free-match, scan-from                        Walking
 // 5  a walk costs at most 2 for each position                    walk-cost, table-cost-bound                  Walking
 //    comparisons at most 4nD, blocks at most nD                  comparisons-bound, blocks-bound              Bounds
 //    D is the smallest with 2 to the power D at least n          depth-enough, depth-least, depth-greatest    Depth

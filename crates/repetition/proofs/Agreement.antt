@@ -16,7 +16,7 @@ use Rattle.repetition.proofs.Matching.{matched-is}
 same-place : (xs : List ℕ) (i j : ℕ) → i ≡ j → getD xs i 0 ≡ getD xs j 0
 same-place xs i j e = ap (λ (k : ℕ). getD xs k 0) e
 
-getD-slice : (t : List ℕ) (a c i : ℕ) → i < c - a → getD (slice a c t) i 0 ≡ getD t (a + i) 0
+pub getD-slice : (t : List ℕ) (a c i : ℕ) → i < c - a → getD (slice a c t) i 0 ≡ getD t (a + i) 0
 getD-slice t a c i l = getD-drop a (take c t) i 0 ∙ getD-take c t (a + i) 0 (omega arith)
 
 getD-reverse : (xs : List ℕ) (i : ℕ) → i < length xs → getD (reverse xs) i 0 ≡ getD xs (length xs - 1 - i) 0
@@ -31,7 +31,7 @@ getD-reverse (x ∷ xs) i l =
           ∙ same-place (x ∷ xs) 0 (suc (length xs) - 1 - i) (omega arith)
     ])
 
-getD-slice-back : (t : List ℕ) (a c i : ℕ) → c ≤ length t → i < c - a → getD (reverse (slice a c t)) i 0 ≡ getD t (c - 1 - i) 0
+pub getD-slice-back : (t : List ℕ) (a c i : ℕ) → c ≤ length t → i < c - a → getD (reverse (slice a c t)) i 0 ≡ getD t (c - 1 - i) 0
 getD-slice-back t a c i h l =
     getD-reverse (slice a c t) i (rw (length-slice a c t h) l)
     ∙ rw (length-slice a c t h) (getD-slice t a c (c - a - 1 - i) (omega arith))

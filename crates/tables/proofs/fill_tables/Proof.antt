@@ -15,31 +15,10 @@ use Rattle.tables.proofs.PartFills.{fill-1, fill-2, fill-3, fill-4, lef
 use Rattle.tables.proofs.fill_tables.Statement.{statement}
 use Rattle.tables.proofs.fill_tables.Tie as tie
 
-cut-at-requires : tie.Need-cut-at-requires
-cut-at-requires c κs = search needs
-
 sub-letters-v : tie.Need-sub-letters-v
 sub-letters-v c =
     let s = c .before .before .before in
     omega (arith, cut-inside (s .args .from) (s .args .to) (s .pre .placed .wide))
-
-sub-letters : tie.Need-sub-letters
-sub-letters c = search needs
-
-add-last : tie.Need-add-last
-add-last c = search needs
-
-itself-requires : tie.Need-itself-requires
-itself-requires c κs = search needs
-
-itself-requires-2 : tie.Need-itself-requires-2
-itself-requires-2 c κs = search needs
-
-against-requires : tie.Need-against-requires
-against-requires c κs = search needs
-
-against-requires-2 : tie.Need-against-requires-2
-against-requires-2 c κs = search needs
 
 -- ---- the way back from each filling
 
@@ -128,17 +107,17 @@ pub fill-tables-spec : {M : Type 1} → statement M
 fill-tables-spec =
     tie.close
     (tie.spec
-    cut-at-requires
+    (λ c κs. search needs)
     sub-letters-v
-    sub-letters
-    add-last
-    itself-requires
+    (λ c. search needs)
+    (λ c. search needs)
+    (λ c κs. search needs)
     fill-requires
-    itself-requires-2
+    (λ c κs. search needs)
     fill-requires-2
-    against-requires
+    (λ c κs. search needs)
     fill-requires-3
-    against-requires-2
+    (λ c κs. search needs)
     fill-requires-4
     same-length
     returns)

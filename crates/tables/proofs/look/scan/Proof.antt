@@ -14,9 +14,6 @@ Inv-loop text backward a b room known count looks₀ on₀ looks on = Scanning t
 abbrev μ-loop : tie.MeasureT-loop
 μ-loop text backward a b room known count looks₀ on₀ looks on = room - on
 
-loop-holds : tie.Need-loop-holds Inv-loop μ-loop
-loop-holds c = omega arith
-
 letter-at-requires : tie.Need-letter-at-requires Inv-loop μ-loop
 letter-at-requires c κs = reads-less _ _ _ _ _ _ (c .before .before .before .pre .reads-a) (omega arith) (omega arith)
 
@@ -32,12 +29,6 @@ look-requires c κs =
       letter-within _ _ _ _ _ (p .reads-a) (c .before .before .if1 .left),
       letter-within _ _ _ _ _ (p .reads-b) (c .before .before .if1 .left),
     )
-
-add-on : tie.Need-add-on Inv-loop μ-loop
-add-on c = omega arith
-
-loop-less : tie.Need-loop-less Inv-loop μ-loop
-loop-less c = omega arith
 
 next : (c : tie.After-look Inv-loop μ-loop)
     → let l = c .before .before .before .before in
@@ -63,12 +54,12 @@ scan-spec =
     (tie.spec
     Inv-loop
     μ-loop
-    loop-holds
+    (λ c. omega arith)
     letter-at-requires
     letter-at-requires-2
     look-requires
-    add-on
-    loop-less
+    (λ c. omega arith)
+    (λ c. omega arith)
     loop-again
     returns
     returns-2)

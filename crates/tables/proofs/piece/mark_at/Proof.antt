@@ -4,12 +4,6 @@ use Rattle.tables.specs.Pieces.{mark}
 use Rattle.tables.proofs.piece.mark_at.Statement.{statement}
 use Rattle.tables.proofs.piece.mark_at.Tie as tie
 
-sub-result : tie.Need-sub-result
-sub-result c = search needs
-
-add-result : tie.Need-add-result
-add-result c = search needs
-
 returns : tie.Need-returns
 unfolding mark
 returns c = rw (c .before .if1 .taken)
@@ -19,4 +13,4 @@ unfolding mark
 returns-2 c = rw (c .before .if1 .left)
 
 pub mark-at-spec : {M : Type 1} → statement M
-mark-at-spec = tie.close (tie.spec sub-result add-result returns returns-2)
+mark-at-spec = tie.close (tie.spec (λ c. search needs) (λ c. search needs) returns returns-2)

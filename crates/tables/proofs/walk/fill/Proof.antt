@@ -19,12 +19,6 @@ abbrev μ-loop : tie.MeasureT-loop
 abbrev start-of : tie.At-loop Inv-loop μ-loop → tie.Start Inv-loop μ-loop
 start-of c = c .before .before .before .before
 
-size-of-requires : tie.Need-size-of-requires Inv-loop μ-loop
-size-of-requires c κs = omega arith
-
-sub-positions : tie.Need-sub-positions Inv-loop μ-loop
-sub-positions c = omega arith
-
 loop-holds : tie.Need-loop-holds Inv-loop μ-loop
 loop-holds c = (omega arith, fill-starts _ _ _ _ (c .before .before .before .pre))
 
@@ -32,12 +26,6 @@ step-requires : tie.Need-step-requires Inv-loop μ-loop
 step-requires c κs =
     let l = c .before .before in
     fill-reached _ _ _ _ (start-of l .pre) _ _ _ (l .loop .inv .1) (omega arith)
-
-add-n : tie.Need-add-n Inv-loop μ-loop
-add-n c = omega arith
-
-loop-less : tie.Need-loop-less Inv-loop μ-loop
-loop-less c = omega arith
 
 loop-again : tie.Need-loop-again Inv-loop μ-loop
 loop-again c =
@@ -67,12 +55,12 @@ fill-spec =
     (tie.spec
     Inv-loop
     μ-loop
-    size-of-requires
-    sub-positions
+    (λ c κs. omega arith)
+    (λ c. omega arith)
     loop-holds
     step-requires
-    add-n
-    loop-less
+    (λ c. omega arith)
+    (λ c. omega arith)
     loop-again
     add-result
     same-length

@@ -23,9 +23,6 @@ cast-own-length c =
     let s = c .before .before .args in
     omega (arith, c .shared-slice-known .given (s .own + (s .i - s .walk .k)))
 
-sub-result : tie.Need-sub-result
-sub-result c = search needs
-
 returns : tie.Need-returns
 returns c = rw (lt-ltb _ _ (c .before .if1 .taken))
 
@@ -41,6 +38,6 @@ is-free-spec =
     mul-own-length
     shared-slice-read-own-length
     cast-own-length
-    sub-result
+    (λ c. search needs)
     returns
     returns-2)

@@ -6,18 +6,6 @@ use Rattle.tables.proofs.Walks.{Given, can-scan, Found, scan-finds}
 use Rattle.tables.proofs.walk.scan_at.Statement.{statement}
 use Rattle.tables.proofs.walk.scan_at.Tie as tie
 
-mark-at-requires : tie.Need-mark-at-requires
-mark-at-requires c κs = search needs
-
-mark-at-requires-2 : tie.Need-mark-at-requires-2
-mark-at-requires-2 c κs = search needs
-
-room-at-requires : tie.Need-room-at-requires
-room-at-requires c κs = search needs
-
-beyond-requires : tie.Need-beyond-requires
-beyond-requires c κs = search needs
-
 abbrev start-of : tie.After-beyond → tie.Start
 start-of c = c .before .before .before .before .before .before
 
@@ -41,23 +29,11 @@ found c = scan-finds _ _ _ _ _ (start-of (c .before) .pre) (given (c .before)) (
 scan-requires : tie.Need-scan-requires
 scan-requires c κs = can-scan _ _ _ _ _ (start-of c .pre) (given c)
 
-add-entry : tie.Need-add-entry
-add-entry c = search needs
-
 cast-work : tie.Need-cast-work
 cast-work c = omega (arith, found (c .before))
 
-mul-work : tie.Need-mul-work
-mul-work c = search needs
-
-slice-write-work : tie.Need-slice-write-work
-slice-write-work c = search needs
-
 add-t13 : tie.Need-add-t13
 add-t13 c = omega (arith, found (c .before))
-
-same-length : tie.Need-same-length
-same-length c = search needs
 
 returns : tie.Need-returns
 returns c = (found (c .before) .walk, rw (found (c .before) .match))
@@ -66,15 +42,15 @@ pub scan-at-spec : {M : Type 1} → statement M
 scan-at-spec =
     tie.close
     (tie.spec
-    mark-at-requires
-    mark-at-requires-2
-    room-at-requires
-    beyond-requires
+    (λ c κs. search needs)
+    (λ c κs. search needs)
+    (λ c κs. search needs)
+    (λ c κs. search needs)
     scan-requires
-    add-entry
+    (λ c. search needs)
     cast-work
-    mul-work
-    slice-write-work
+    (λ c. search needs)
+    (λ c. search needs)
     add-t13
-    same-length
+    (λ c. search needs)
     returns)

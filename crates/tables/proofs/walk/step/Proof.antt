@@ -6,9 +6,6 @@ use Rattle.tables.proofs.Walks.{can-read, Free, is-free, can-scan-at, s
 use Rattle.tables.proofs.walk.step.Statement.{statement}
 use Rattle.tables.proofs.walk.step.Tie as tie
 
-add-i : tie.Need-add-i
-add-i c = search needs
-
 is-free-requires : tie.Need-is-free-requires
 is-free-requires c κs = can-read _ _ _ _ _ (c .before .before .before .before .pre)
 
@@ -21,29 +18,11 @@ freed : (c : tie.Then1)
     Free (s .text .now) (s .work .now) (s .table) (s .n) (walk-of (s .walk))
 freed c = is-free _ _ _ _ _ (start-of (c .before) .pre) (sym (c .before .is-free .ensures) ∙ c .if1 .taken)
 
-add-entry : tie.Need-add-entry
-add-entry c = search needs
-
 sub-work : tie.Need-sub-work
 sub-work c = freed (c .before) .reads .0
 
-add-work : tie.Need-add-work
-add-work c = search needs
-
-mul-work : tie.Need-mul-work
-mul-work c = search needs
-
 slice-read-work : tie.Need-slice-read-work
 slice-read-work c = freed (c .before .before) .reads .1
-
-mul-work-2 : tie.Need-mul-work-2
-mul-work-2 c = search needs
-
-slice-write-work : tie.Need-slice-write-work
-slice-write-work c = search needs
-
-same-length : tie.Need-same-length
-same-length c = search needs
 
 returns : tie.Need-returns
 returns c = (freed (c .before .before) .stays, rw (freed (c .before .before) .taken))
@@ -52,9 +31,6 @@ scan-at-requires : tie.Need-scan-at-requires
 scan-at-requires c κs =
     let d = c .before in
     can-scan-at _ _ _ _ _ (start-of (d .before) .pre) (sym (d .before .is-free .ensures) ∙ d .if1 .left)
-
-same-length-2 : tie.Need-same-length-2
-same-length-2 c = search needs
 
 returns-2 : tie.Need-returns-2
 returns-2 c =
@@ -68,17 +44,17 @@ pub step-spec : {M : Type 1} → statement M
 step-spec =
     tie.close
     (tie.spec
-    add-i
+    (λ c. search needs)
     is-free-requires
-    add-entry
+    (λ c. search needs)
     sub-work
-    add-work
-    mul-work
+    (λ c. search needs)
+    (λ c. search needs)
     slice-read-work
-    mul-work-2
-    slice-write-work
-    same-length
+    (λ c. search needs)
+    (λ c. search needs)
+    (λ c. search needs)
     returns
     scan-at-requires
-    same-length-2
+    (λ c. search needs)
     returns-2)

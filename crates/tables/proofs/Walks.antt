@@ -100,7 +100,7 @@ module _ (t work : List ℕ) (a : TableAt) (i : ℕ) (w : Walk) (h : CanScanAt t
 
 -- ---- one position
 
--- A free position i: its number is there, and the walk stays as it is.
+-- The position after the first n is free: its number is there, and the walk stays as it is.
 pub record Free (t work : List ℕ) (a : TableAt) (n : ℕ) (w : Walk) : Type 0 where
   pub taken : getD work (a .own + (a .first + n - w .k)) 0 ≡ match-at (table-of t a) (a .first + n)
   pub reads : (w .k ≤ a .first + n) × (a .own + (a .first + n - w .k) < length work)

@@ -45,7 +45,7 @@ pub record Run (P : ℕ → Type 0) (n M : ℕ) : Type 0 where
   pub all : (k : ℕ) → k < n → P k
   pub stop : n < M → P n → ⊥
 
-run-of : {P Q : ℕ → Type 0} {n M : ℕ} → ((k : ℕ) → k < M → P k → Q k) → ((k : ℕ) → k < M → Q k → P k) → Run P n M → Run Q n M
+pub run-of : {P Q : ℕ → Type 0} {n M : ℕ} → ((k : ℕ) → k < M → P k → Q k) → ((k : ℕ) → k < M → Q k → P k) → Run P n M → Run Q n M
 run-of f g r =
     record {
       short = r .short;
@@ -53,7 +53,7 @@ run-of f g r =
       stop = λ l h. r .stop l (g _ l h);
     }
 
-match-run : (xs ys : List ℕ) → Run (λ k. getD xs k 0 ≡ getD ys k 0) (matched xs ys) (min (length xs) (length ys))
+pub match-run : (xs ys : List ℕ) → Run (λ k. getD xs k 0 ≡ getD ys k 0) (matched xs ys) (min (length xs) (length ys))
 match-run xs ys =
     let r = matched-is xs ys in
     record { short = omega arith; all = r .agree; stop = λ l. r .stop (omega arith) (omega arith) }

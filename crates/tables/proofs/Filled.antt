@@ -90,7 +90,7 @@ module _ (m : Table) (at n : ℕ) (work : List ℕ) (reached : m .first + n ≤ 
   unfolding partly
   partly-before = getD-paste-before work (at + m .first) (lengths m) n fits enough
 
-  pub partly-after : (x : ℕ) → at + m .first + n ≤ x → getD (partly m at n work) x 0 ≡ getD work x 0
+  partly-after : (x : ℕ) → at + m .first + n ≤ x → getD (partly m at n work) x 0 ≡ getD work x 0
   unfolding partly
   partly-after = getD-paste-after work (at + m .first) (lengths m) n fits enough
 

@@ -10,8 +10,7 @@ use lib.Dec.{eqb}
 use lib.Seq.{getD-drop}
 use borrow.Author.Tests.{eqb-true, eqb-false, le-ltb, lt-ltb}
 use Rattle.repetition.specs.Tables.{matched}
-use Rattle.repetition.proofs.Matching.{matched-is}
-use Rattle.repetition.proofs.Agreement.{Run}
+use Rattle.repetition.proofs.Agreement.{Run, run-of, match-run}
 use Rattle.tables.specs.declared.piece.Piece.{Piece}
 use Rattle.tables.specs.declared.look.Looked.{Looked}
 use Rattle.tables.specs.Pieces.{size, read, mark, ahead, letter-place, Reads}
@@ -32,7 +31,7 @@ run-ends : {P : ℕ → Type 0} {n M : ℕ} → Run P n M → (x : ℕ) → x �
 run-ends r x h not = le-antisymm (by-contra _ _ (λ l. not (r .all x l))) h
 
 -- The letters x letters on from two marks are equal.
-abbrev pub Same : List ℕ → Bool → ℕ → ℕ → ℕ → Type 0
+abbrev Same : List ℕ → Bool → ℕ → ℕ → ℕ → Type 0
 Same t back a b x = getD t (letter-place back a x) 0 ≡ getD t (letter-place back b x) 0
 
 module _ (t : List ℕ) (back : Bool) where
@@ -42,12 +41,7 @@ module _ (t : List ℕ) (back : Bool) where
       → ((x : ℕ) → x < room → getD ys x 0 ≡ getD t (letter-place back b x) 0)
       → Run (Same t back a b) (matched xs ys) room
   same-run a b room xs ys e f g =
-      let r = matched-is xs ys in
-      record {
-        short = omega arith;
-        all = λ x l. sym (f x (omega arith)) ∙ r .agree x l ∙ g x (omega arith);
-        stop = λ l h. r .stop (omega arith) (omega arith) (f _ l ∙ h ∙ sym (g _ l));
-      }
+      run-of (λ x l h. sym (f x l) ∙ h ∙ g x l) (λ x l h. f x l ∙ h ∙ sym (g x l)) (rw e (match-run xs ys))
 
   length-ahead : (a n : ℕ) → Reads (length t) back a n → length (read t back (ahead back a n)) ≡ n
   length-ahead a n h =
@@ -60,7 +54,7 @@ module _ (t : List ℕ) (back : Bool) where
       let r = ahead-is (length t) back a n h in
       rw (r .begins, zero-add x) at (letter-read t back (ahead back a n) 0 x (r .inside) (omega arith))
 
-  pub common-run : (a b room : ℕ) → Reads (length t) back a room → Reads (length t) back b room
+  common-run : (a b room : ℕ) → Reads (length t) back a room → Reads (length t) back b room
       → Run (Same t back a b) (common t back a b room) room
   unfolding common
   common-run a b room ha hb =

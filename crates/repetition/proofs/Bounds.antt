@@ -20,7 +20,7 @@ use Rattle.repetition.proofs.Walking.{table-cost-bound}
 use Rattle.repetition.proofs.Reading.{size-u, size-v, class-read}
 use Rattle.repetition.proofs.Depth.{depth-enough}
 
-around-one : (d p back on : ℕ) → length (around d p back on) ≤ 1
+pub around-one : (d p back on : ℕ) → length (around d p back on) ≤ 1
 unfolding around
 around-one d p back on =
     elim (decLe p (back + on)) [

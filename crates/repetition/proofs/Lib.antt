@@ -10,4 +10,5 @@ pub mod Listing
 pub mod Depth
 pub mod Bounds
 pub mod Longest
+pub mod Reports
 pub mod Examples

@@ -14,4 +14,5 @@
 //    D is the smallest with 2 to the power D at least n          depth-enough, depth-least, depth-greatest    Depth
 // 6  enough fuel is enough; a part unrolled; induction           fuel-enough, parts-unroll, parts-ind         Cutting
 // 7  the longest: greatest half, met first, there if any is      longest-is, longest-first, longest-there     Longest
+// 8  blocks written are read back, the rest is as before         list-read, leading-read, beyond-kept         Reports
 //    the starred examples of document 01                         starred-examples                             Examples

@@ -1,0 +1,72 @@
+-- A part is found: its tables are filled, and its right and left blocks are put. Assumes nothing.
+use Prim.Native.Nat.{ℕ, _+_, _-_, _^_, _≤_, _<_}
+use mathlib.Core.Path.{_≡_, sym, ap, _∙_}
+use mathlib.Core.List.{List, foldl-append}
+use native.Mathlib.Omega.{arith}
+use lib.ListN.{length}
+use Rattle.repetition.specs.Cutting.{Part, right, left, cut-of}
+use Rattle.repetition.specs.Blocks.{class-blocks, part-blocks}
+use Rattle.repetition.specs.Comparisons.{part-comparisons}
+use Rattle.tables.specs.Parts.{with-tables}
+use Rattle.tables.proofs.Parts.{sizes, length-with-tables}
+use Rattle.finder.specs.declared.tally.Tally.{Tally}
+use Rattle.finder.specs.declared.reading.CutPart.{CutPart}
+use Rattle.finder.specs.declared.reading.Class.{Class}
+use Rattle.finder.specs.declared.reading.Class.the-variants.{Right, Left}
+use Rattle.finder.specs.Kept.{Kept, kept, compared, put, put-all, found}
+use Rattle.finder.specs.Reading.{read-all, most-of, CanReadAll}
+use Rattle.finder.specs.Finding.{CanFindPart}
+use Rattle.finder.proofs.Puts.{blocks-put-all}
+use Rattle.finder.proofs.Classes.{read-size}
+use Rattle.finder.proofs.TableBlocks.{cut-part, class-is, well-cut, inside}
+
+-- a part that is cut where document 01 cuts it
+abbrev cut-at : Part → ℕ → CutPart
+cut-at q c = record { from = q .from; cut = c; to = q .to }
+
+-- the right blocks leave room for the left ones
+room-left : (b b′ n limit from c to : ℕ) → b′ ≡ b + n → n ≤ to - c → (from < c) × (c < to) → b + (to - from) < limit
+    → b′ + (c - from - 1) < limit
+room-left b b′ n limit from c to more few between fits = omega (arith, between)
+
+module _ (t work : List ℕ) (q : Part) (y : Tally) (can : CanFindPart t work q y) where
+  -- the filled tables can be read, as long as there is room for the blocks
+  reads : (κ : Class) (y′ : Tally) → y′ .blocks + most-of (cut-part q) κ < 2 ^ 32
+      → CanReadAll (with-tables t q work) (cut-part q) κ y′
+  reads κ y′ l =
+      record {
+        well-cut = well-cut t work q (can .placed);
+        room = rw (length-with-tables t work q (can .placed)) (can .placed .room);
+        inside = inside t work q (can .placed) κ;
+        counts = l;
+      }
+
+  module _ {c : ℕ} {tables : List ℕ} {count : ℕ} {y₁ : Tally} (cut-is : c ≡ cut-of q) (filled : tables ≡ with-tables t q work)
+      (counted : count ≡ y .comparisons + part-comparisons t q) (takes : y₁ ≡ compared y count) where
+    pub can-right : CanReadAll tables (cut-at q c) Right y₁
+    can-right =
+        rw (filled, cut-is, takes)
+        (reads Right (compared y count) (omega (arith, can .counts, sizes t work q (can .placed))))
+
+    module _ (report : List ℕ) {report₁ : List ℕ} {y₂ : Tally}
+        (rights : kept report₁ y₂ ≡ put-all (kept report y₁) (read-all tables (cut-at q c) Right)) where
+      pub can-left : CanReadAll tables (cut-at q c) Left y₂
+      can-left =
+          let blocks = read-all tables (cut-at q c) Right in
+          let e = ap (λ (k : Kept). k .tally .blocks) rights ∙ blocks-put-all (kept report y₁) blocks in
+          let l : length blocks ≤ q .to - cut-of q =
+          omega (arith, read-size tables (cut-at q c) Right (most-of (cut-at q c) Right)) in
+          let z = sizes t work q (can .placed) .between in
+          rw (filled, cut-is)
+          (reads Left y₂
+          (room-left (y .blocks) (y₂ .blocks) (length blocks) (2 ^ 32) (q .from) (cut-of q) (q .to)
+          (e ∙ ap (λ (x : Tally). x .blocks + length blocks) takes) l z (can .counts .blocks-fit)))
+
+      pub part-found : {report₂ : List ℕ} {y₃ : Tally}
+          → kept report₂ y₃ ≡ put-all (kept report₁ y₂) (read-all tables (cut-at q c) Left)
+          → kept report₂ y₃ ≡ found t (kept report y) q
+      unfolding found part-blocks
+      part-found lefts =
+          lefts ∙ rw (rights, takes, counted, filled, cut-is)
+          (rw (class-is t work q (can .placed) Right, class-is t work q (can .placed) Left)
+          (sym (foldl-append put _ (class-blocks t right q) (class-blocks t left q))))

@@ -1,0 +1,39 @@
+-- `finder::search::search` meets its contract. Assumes nothing.
+use borrow.Author.Needs.{needs}
+use Rattle.finder.proofs.Searches.{searched-long, searched-short, first-part, can-search, searched-found}
+use Rattle.finder.proofs.search.search.Statement.{statement}
+use Rattle.finder.proofs.search.search.Tie as tie
+
+returns : tie.Need-returns
+returns c = searched-long _ _ _ (c .if1 .taken)
+
+returns-2 : tie.Need-returns-2
+returns-2 c = searched-short _ _ _ (c .before .if1 .left) (c .if2 .taken)
+
+slice-aggregate-search-whole : tie.Need-slice-aggregate-search-whole
+slice-aggregate-search-whole c =
+    let s = c .before .before .before .before .before .before .args in
+    first-part (s .text .now) (s .work .now) (c .before .before .if1 .left) (c .before .if2 .left)
+
+search-whole-requires : tie.Need-search-whole-requires
+search-whole-requires c κs = can-search _ _ (c .before .before .before .if1 .left) (c .before .before .if2 .left)
+
+returns-3 : tie.Need-returns-3
+returns-3 c =
+    let d = c .before .before .before .before in
+    let e = d .search-whole .ensures in
+    searched-found _ _ _ (d .before .before .before .before .if1 .left) (d .before .before .before .if2 .left) (e .0) (e .1)
+
+pub search-spec : {M : Type 1} → statement M
+search-spec =
+    tie.close
+    (tie.spec
+    returns
+    (λ c. search needs)
+    returns-2
+    (λ c. search needs)
+    slice-aggregate-search-whole
+    search-whole-requires
+    (λ c. search needs)
+    (λ c. search needs)
+    returns-3)

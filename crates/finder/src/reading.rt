@@ -1,0 +1,139 @@
+// The blocks of a part, read from its match tables without a look at the text.
+use crate::tally;
+use crate::tally::Tally;
+ghost use mathlib.Core.Path.{_≡_};
+ghost use Prim.Native.Nat.{_<_, min};
+ghost use lib.ListN.{length, getD};
+ghost use Rattle.finder.specs.Kept.{kept, put-all};
+ghost use Rattle.finder.specs.Reading.{right-reach, left-reach, reach-of, most-of, around-reach, read-all};
+ghost use Rattle.finder.specs.Reading.{WellCut, CanReach, CanPutAround, CanReadAll};
+
+pub enum Class {
+    Right,
+    Left,
+}
+
+// A part, and where it is cut.
+pub struct CutPart {
+    pub from: usize,
+    pub cut: usize,
+    pub to: usize,
+}
+
+// How far letters agree with those a half length on: so many back from a place, and so many on from it.
+pub struct Reach {
+    pub place: usize,
+    pub back: usize,
+    pub on: usize,
+}
+
+fn smaller(a: usize, b: usize) -> usize
+    ensures { λ r. ⌜ r ≡ min a b ⌝ }
+{
+    if a < b { a } else { b }
+}
+
+// The match length at a place of the work space.
+fn entry(work: &[u16], at: usize) -> usize
+    requires { ⌜ at < length (now work) ⌝ }
+    ensures { λ r. ⌜ r ≡ getD (now (work .entry)) at 0 ⌝ }
+{
+    work[at] as usize
+}
+
+// A right repetition's reach, by the first and the third table. Of the first table v's whole length has no entry.
+fn right_reach(work: &[u16], part: CutPart, half: usize) -> Reach
+    requires { ⌜ CanReach (now work) part Class.Right half ⌝ }
+    ensures { λ r. ⌜ r ≡ right-reach (now (work .entry)) part half ⌝ }
+{
+    let cut = part.cut;
+    let letters_v = part.to - cut;
+    let third = part.to - part.from;
+    let back = entry(work, third + (letters_v - half));
+    if half < letters_v {
+        return Reach {
+            place: cut,
+            back,
+            on: smaller(half - 1, entry(work, half)),
+        };
+    }
+    Reach {
+        place: cut,
+        back,
+        on: 0,
+    }
+}
+
+// A left repetition's reach, by the second and the fourth table.
+fn left_reach(work: &[u16], part: CutPart, half: usize) -> Reach
+    requires { ⌜ CanReach (now work) part Class.Left half ⌝ }
+    ensures { λ r. ⌜ r ≡ left-reach (now (work .entry)) part half ⌝ }
+{
+    let cut = part.cut;
+    let letters_u = cut - part.from;
+    let second = part.to - cut;
+    let fourth = part.to - part.from + second;
+    Reach {
+        place: cut - half,
+        back: smaller(half - 1, entry(work, second + half)),
+        on: smaller(half - 1, entry(work, fourth + (letters_u - half))),
+    }
+}
+
+fn reach_of(work: &[u16], part: CutPart, class: Class, half: usize) -> Reach
+    requires { ⌜ CanReach (now work) part class half ⌝ }
+    ensures { λ r. ⌜ r ≡ reach-of (now (work .entry)) part class half ⌝ }
+{
+    match class {
+        Class::Right => right_reach(work, part, half),
+        Class::Left => left_reach(work, part, half),
+    }
+}
+
+// The greatest half that a class can have in a part.
+fn greatest_half(part: CutPart, class: Class) -> usize
+    requires { ⌜ WellCut part ⌝ }
+    ensures { λ r. ⌜ r ≡ most-of part class ⌝ }
+{
+    match class {
+        Class::Right => part.to - part.cut,
+        Class::Left => part.cut - part.from - 1,
+    }
+}
+
+// Puts the block of a half, if its reach has one.
+fn put_around(report: &mut [u16], tally: Tally, half: usize, reach: Reach) -> Tally
+    requires { ⌜ CanPutAround tally half reach ⌝ }
+    ensures { λ r. ⌜ kept (now (report .exit)) r ≡ put-all (kept (now (report .entry)) tally) (around-reach half reach) ⌝ }
+{
+    let place = reach.place;
+    let back = reach.back;
+    let on = reach.on;
+    if half <= back + on {
+        return tally::put(report, tally, half, place - back, place + on - half);
+    }
+    tally
+}
+
+// Puts a part's blocks of one class, by rising half.
+pub fn put_class(
+    work: &[u16],
+    report: &mut [u16],
+    part: CutPart,
+    class: Class,
+    tally: Tally,
+) -> Tally
+    requires { ⌜ CanReadAll (now work) part class tally ⌝ }
+    ensures { λ r. ⌜ kept (now (report .exit)) r
+        ≡ put-all (kept (now (report .entry)) tally) (read-all (now (work .entry)) part class) ⌝ }
+{
+    let most = greatest_half(part, class);
+    let mut all = tally;
+    let mut halves = 0;
+    while halves < most {
+        let half = halves + 1;
+        all = put_around(report, all, half, reach_of(work, part, class, half));
+        halves = half;
+    }
+    all
+}

@@ -20,7 +20,7 @@ use Rattle.finder.proofs.Puts.{blocks-put-all}
 use Rattle.finder.proofs.Classes.{read-size}
 use Rattle.finder.proofs.TableBlocks.{cut-part, class-is, well-cut, inside}
 
--- a part that is cut where document 01 cuts it
+-- a part that is cut at c
 abbrev cut-at : Part → ℕ → CutPart
 cut-at q c = record { from = q .from; cut = c; to = q .to }
 

@@ -1,4 +1,4 @@
--- A whole text is searched: what is kept of all its parts, and what the search is told by. Assumes nothing.
+-- A whole text is searched: what is kept of all its parts, and the three outcomes. Assumes nothing.
 use Prim.Native.Nat.{ℕ, _+_, _-_, _*_, _≤_, _<_}
 use mathlib.Core.Path.{_≡_, sym, ap, ap₂, subst, _∙_}
 use mathlib.Core.Logic.{⊎-elim}

@@ -77,11 +77,12 @@ longest-next c (d ∷ cs) b = longest-next (cond (ltb (c .half) (d .half)) d c) 
 
 -- ---- both
 
--- report and tally after some blocks and comparisons
+-- the tally after n comparisons and some blocks
 abbrev tally-after : ℕ → List Block → Tally
 tally-after n bs =
     record { blocks = length bs; comparisons = n; half = getD (longest-in bs) 1 0; start = getD (longest-in bs) 0 0 }
 
+-- the same with the report
 abbrev pub kept-after : List ℕ → ℕ → List Block → Kept
 kept-after report n bs = kept (written bs report) (tally-after n bs)
 

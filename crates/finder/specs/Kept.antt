@@ -12,6 +12,7 @@ use Rattle.repetition.specs.Limits.{length-limit, numbers-per-block}
 use Rattle.repetition.specs.Memory.{numbers, room}
 use Rattle.finder.specs.declared.tally.Tally.{Tally}
 
+-- nothing found yet
 abbrev pub no-tally : Tally
 no-tally = record { blocks = 0; comparisons = 0; half = 0; start = 0 }
 

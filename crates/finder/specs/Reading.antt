@@ -1,5 +1,5 @@
 -- The blocks of a part, read from its match tables as they stand in the work space: document 01, "The four tables of a part".
--- That they are the part's blocks is a law (proofs/Tables.antt); a reader need not believe these formulas.
+-- That they are the part's blocks is a law (proofs/TableBlocks.antt); a reader need not believe these formulas.
 use Prim.Native.Nat.{ℕ, _+_, _-_, _*_, _^_, _≤_, _<_, min}
 use mathlib.Core.Bool.{cond}
 use mathlib.Core.List.{List, flatMap}

@@ -53,6 +53,9 @@ module _ (m : ℕ) where
   abbrev Left : Type 0
   Left = find-lts.After-find calls (find-at m) find.Post
 
+  abbrev Right : Type 0
+  Right = find-lts.After-find2 calls (find-at m) find.Post
+
   abbrev start-of : Cut → Start
   start-of c = c .before .before .before .before .before
 
@@ -61,9 +64,6 @@ module _ (m : ℕ) where
 
   abbrev here-of : Left → Here
   here-of c = c .before .before .before .before .before .before .before
-
-  abbrev Right : Type 0
-  Right = find-lts.After-find2 calls (find-at m) find.Post
 
   abbrev left-of : Right → Left
   left-of c = c .before .before .before .before .before .before .before

@@ -2,21 +2,21 @@
 use Prim.Native.Nat.{ℕ, suc, _+_, _*_, _≤_, _<_}
 use mathlib.Core.Path.{_≡_, refl, sym, ap, _∙_}
 use mathlib.Core.Logic.{_↔_, _⊎_, inl, inr, ⊎-elim}
-use mathlib.Core.Bool.{Bool, true, false, cond, true≢false, or-true}
+use mathlib.Core.Bool.{Bool, true, false, cond, true≢false}
 use mathlib.Core.List.{List, [], _∷_, List·Memᴰ, nil≢cons}
 use native.Mathlib.Decide.{decLe, decLt}
 use native.Mathlib.Omega.{arith}
-use lib.Dec.{leb, eqb}
+use lib.Dec.{leb}
 use lib.ListN.{length, take, drop}
-use borrow.Author.Tests.{le-leb, lt-leb, lt-ltb, le-ltb, eq-eqb, ne-eqb}
+use borrow.Author.Tests.{le-leb, lt-leb}
 use Rattle.repetition.specs.Numbers.{one-if}
 use Rattle.repetition.specs.Repetition.{Repetition, stands}
 use Rattle.repetition.specs.Blocks.{Block, has, list-of}
 use Rattle.repetition.specs.Comparisons.{comparisons}
 use Rattle.repetition.specs.Limits.{length-limit, numbers-per-block, depth, room-for}
 use Rattle.repetition.specs.Memory.{room, written, blocks-in, cleared}
-use Rattle.repetition.specs.Outcomes.{Reply, refused, refusal, Listed, listed, listing, place, Asked, asked}
-use Rattle.repetition.specs.Outcomes.{repetition-free, free-test, longest-in, longest, room-question}
+use Rattle.repetition.specs.Outcomes.{Reply, refused, refusal, Listed, listed, listing, Asked, asked}
+use Rattle.repetition.specs.Outcomes.{repetition-free, free-test, longest-in, longest}
 use Rattle.repetition.proofs.Lists.{OnePlace}
 use Rattle.repetition.proofs.Repetitions.{stands-true, true-stands}
 use Rattle.repetition.proofs.Listing.{in-block, listed-repetition, empty-list, free-text}
@@ -32,7 +32,8 @@ use Rattle.finder.specs.Replies.{reply, listing-number, listing-values, 
 use Rattle.finder.specs.Replies.{freedom-number, freedom-values, longest-number, longest-values, room-values}
 use Rattle.finder.specs.Promises.{ListPromise, PlacePromise, FreePromise, LongestPromise, RoomPromise}
 use Rattle.finder.proofs.Refusals.{refused-1, refused-2, not-refused, listing-refused, listing-taken}
-use Rattle.finder.proofs.Refusals.{asked-refused, asked-taken}
+use Rattle.finder.proofs.Refusals.{asked-refused, asked-taken, NoPlace, place-refused, place-none, place-taken}
+use Rattle.finder.proofs.Refusals.{room-taken}
 
 same-number : {x y : Reply} → x ≡ y → x .number ≡ y .number
 same-number = ap (λ (x : Reply). x .number)
@@ -43,8 +44,7 @@ same-values = ap (λ (x : Reply). x .values)
 -- ---- the room question
 
 pub room-answer : (n : ℕ) (a : Room) → n ≤ length-limit → RoomPromise n a → room-values a ≡ room-for n ∷ []
-unfolding room-question
-room-answer n a l q = same-values (rw (le-ltb length-limit n l, room-question) at (q .replies))
+room-answer n a l q = same-values (q .replies ∙ room-taken n l)
 
 -- number of blocks and comparisons of the full list
 abbrev pub totals : List ℕ → List ℕ
@@ -212,10 +212,6 @@ answers false f e =
       no = (λ x p. true≢false (sym (f .1 p)), λ n. e);
     }
 
--- the half is 0, or the place goes past the end
-abbrev pub NoPlace : List ℕ → ℕ → ℕ → Type 0
-NoPlace t s p = (p ≡ 0) ⊎ (length t < s + 2 * p)
-
 module _ (t : List ℕ) (s p : ℕ) (r : Place) where
   pub record PlaceMeaning : Type 0 where
     pub too-long : (place-number r ≡ 1) ↔ (length-limit < length t)
@@ -223,28 +219,15 @@ module _ (t : List ℕ) (s p : ℕ) (r : Place) where
     pub answer : length t ≤ length-limit → 1 ≤ p → s + 2 * p ≤ length t → Answers (place-values r) (Repetition t s p)
 
   module _ (promise : PlacePromise t s p r) where
-    place-refused : length-limit < length t → place-number r ≡ 1
-    unfolding place
-    place-refused l = same-number (rw (lt-ltb length-limit (length t) l, place) at (promise .replies))
+    long : length-limit < length t → place-number r ≡ 1
+    long l = same-number (promise .replies ∙ place-refused t s p l)
 
     module _ (l : length t ≤ length-limit) where
       no-place : NoPlace t s p → place-number r ≡ 4
-      unfolding place
-      no-place (inl z) =
-          same-number (rw (le-ltb length-limit (length t) l, eq-eqb p 0 z, place) at (promise .replies))
-      no-place (inr m) =
-          same-number
-          (rw (le-ltb length-limit (length t) l, lt-ltb (length t) (s + 2 * p) m, or-true (eqb p 0), place) at (promise .replies))
+      no-place o = same-number (promise .replies ∙ place-none t s p l o)
 
       placed : 1 ≤ p → s + 2 * p ≤ length t → reply (place-number r) (place-values r) ≡ reply 0 (one-if (stands t s p) ∷ [])
-      unfolding place
-      placed one m =
-          rw (
-            le-ltb length-limit (length t) l,
-            ne-eqb p 0 (omega arith),
-            le-ltb (length t) (s + 2 * p) m,
-            place,
-          ) at (promise .replies)
+      placed one m = promise .replies ∙ place-taken t s p l one m
 
       within : (place-number r ≡ 1 → ⊥) × (place-number r ≡ 4 → NoPlace t s p)
       within =
@@ -261,7 +244,7 @@ module _ (t : List ℕ) (s p : ℕ) (r : Place) where
         record {
           too-long = (
             λ e. elim (decLt length-limit (length t)) [ yes l ↦ l | no l ↦ absurd (within (omega arith) .0 e) ],
-            place-refused,
+            long,
           );
           no-such-place = λ l. (within l .1, no-place l);
           answer = λ l one m.

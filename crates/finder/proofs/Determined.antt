@@ -48,10 +48,14 @@ listing-again (listing.Full a) = refl
 listing-again listing.TextTooLong = refl
 listing-again listing.WorkTooShort = refl
 
+-- yes is the value 1 and no the value 0 under number 0; number 1 is one refusal, and the other has a number above it
+abbrev answer-from : {A : Type 0} (yes-is no-is first second : A) → ℕ → List ℕ → A
+answer-from yes-is no-is first second zero vs = cond (eqb (getD vs 0 0) 1) yes-is no-is
+answer-from yes-is no-is first second (suc zero) vs = first
+answer-from yes-is no-is first second (suc (suc n)) vs = second
+
 abbrev place-from : ℕ → List ℕ → Place
-place-from zero vs = cond (eqb (getD vs 0 0) 1) place.Stands place.DoesNotStand
-place-from (suc zero) vs = place.TextTooLong
-place-from (suc (suc n)) vs = place.NoSuchPlace
+place-from = answer-from place.Stands place.DoesNotStand place.TextTooLong place.NoSuchPlace
 
 place-again : (r : Place) → place-from (place-number r) (place-values r) ≡ r
 place-again place.Stands = refl
@@ -60,9 +64,7 @@ place-again place.TextTooLong = refl
 place-again place.NoSuchPlace = refl
 
 abbrev freedom-from : ℕ → List ℕ → Freedom
-freedom-from zero vs = cond (eqb (getD vs 0 0) 1) freedom.Free freedom.NotFree
-freedom-from (suc zero) vs = freedom.TextTooLong
-freedom-from (suc (suc n)) vs = freedom.WorkTooShort
+freedom-from = answer-from freedom.Free freedom.NotFree freedom.TextTooLong freedom.WorkTooShort
 
 freedom-again : (r : Freedom) → freedom-from (freedom-number r) (freedom-values r) ≡ r
 freedom-again freedom.Free = refl

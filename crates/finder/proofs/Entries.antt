@@ -1,13 +1,14 @@
 -- Each entry's answer, made from what the search gives, is the one that its promise asks for. Assumes nothing.
 use Prim.Native.Nat.{ℕ, zero, suc, _+_, _*_, _/_, _≤_, _<_}
 use mathlib.Core.Path.{_≡_, refl, sym, ap, _∙_}
-use mathlib.Core.Bool.{Bool, true, false, _&&_, _||_, not, cond, and-eq-true-iff}
+use mathlib.Core.Logic.{inl, inr}
+use mathlib.Core.Bool.{true≢false, Bool, true, false, _&&_, cond, and-eq-true-iff}
 use mathlib.Core.List.{List, [], _∷_, cons≢nil}
 use native.Mathlib.Nat.{mul-le-mul}
 use native.Mathlib.Omega.{arith}
 use native.Mathlib.Decide.{decLe}
-use borrow.Author.Tests.{lt-ltb, le-ltb, le-leb, lt-leb, leb-true, eq-eqb, ne-eqb}
-use lib.Dec.{leb, ltb, eqb}
+use borrow.Author.Tests.{le-leb, lt-leb, leb-true, ne-eqb}
+use lib.Dec.{leb, eqb}
 use lib.ListN.{length, getD}
 use Rattle.repetition.specs.Numbers.{one-if}
 use Rattle.repetition.specs.Repetition.{stands}
@@ -15,9 +16,9 @@ use Rattle.repetition.specs.Blocks.{Block, list-of}
 use Rattle.repetition.specs.Comparisons.{comparisons}
 use Rattle.repetition.specs.Limits.{length-limit, greatest-depth, numbers-per-block, depth, room-for}
 use Rattle.repetition.specs.Memory.{room}
-use Rattle.repetition.specs.Outcomes.{Reply, refusal, Listed, listing, listed, Asked, asked}
+use Rattle.repetition.specs.Outcomes.{Reply, refusal, Listed, listing, listed, Asked}
 use Rattle.repetition.specs.Outcomes.{repetition-free, free-test, longest-of as longest-block, longest-in, longest}
-use Rattle.repetition.specs.Outcomes.{place, room-question}
+use Rattle.repetition.specs.Outcomes.{place}
 use Rattle.repetition.proofs.Lists.{is-false}
 use Rattle.repetition.proofs.Listing.{empty-list, free-text}
 use Rattle.repetition.proofs.Depth.{depth-greatest}
@@ -35,12 +36,13 @@ use Rattle.finder.specs.declared.reply.Freedom.the-variants as reply-fre
 use Rattle.finder.specs.declared.reply.Longest.{Longest}
 use Rattle.finder.specs.declared.reply.Longest.the-variants as reply-longest
 use Rattle.finder.specs.Promises.{ListPromise, PlacePromise, FreePromise, LongestPromise, RoomPromise}
-use Rattle.finder.specs.Replies.{reply, listing-number, listing-values, place-number, place-values}
+use Rattle.finder.specs.Replies.{reply, listing-number, listing-values}
 use Rattle.finder.specs.Replies.{freedom-number, freedom-values, longest-number, longest-values}
 use Rattle.finder.specs.Places.{same-letters}
 use Rattle.finder.specs.Searching.{tally-of, searched, searching}
 use Rattle.finder.proofs.Refusals.{refused-1, refused-2, not-refused, listing-refused, listing-taken}
-use Rattle.finder.proofs.Refusals.{asked-refused, asked-taken}
+use Rattle.finder.proofs.Refusals.{asked-refused, asked-taken, NoPlace, place-refused, place-none, place-taken}
+use Rattle.finder.proofs.Refusals.{room-refused, room-taken}
 use Rattle.finder.proofs.Searches.{by-outcome}
 
 -- ---- the list
@@ -201,30 +203,23 @@ free-promise t work {a} is promise =
 
 -- ---- the place test
 
-no-such : (n s p : ℕ) → (eqb p 0 || ltb n (s + 2 * p)) ≡ not (leb 1 p && leb (s + 2 * p) n)
-no-such n s p =
-    elim (decLe 1 p) [
-      | no z ↦ rw (eq-eqb p 0 (omega arith), lt-leb 1 p (omega arith))
-      | yes z ↦ elim (decLe (s + 2 * p) n) [
-        | yes m ↦ rw (ne-eqb p 0 (omega arith), le-ltb n (s + 2 * p) m, le-leb 1 p z, le-leb (s + 2 * p) n m)
-        | no m ↦ rw (
-          ne-eqb p 0 (omega arith),
-          lt-ltb n (s + 2 * p) (omega arith),
-          le-leb 1 p z,
-          lt-leb (s + 2 * p) n (omega arith),
-        )
-      ]
-    ]
-
 module _ (t : List ℕ) (s p : ℕ) where
   pub place-long : length-limit < length t → PlacePromise t s p reply-place.TextTooLong
-  unfolding place
-  place-long l = record { replies = rw (lt-ltb length-limit (length t) l, place) }
+  place-long l = record { replies = sym (place-refused t s p l) }
 
   module _ (l : length t ≤ length-limit) {fits : Bool} (is : fits ≡ leb 1 p && leb (s + 2 * p) (length t)) where
     pub no-place : fits ≡ false → PlacePromise t s p reply-place.NoSuchPlace
-    unfolding place
-    no-place e = record { replies = rw (le-ltb length-limit (length t) l, no-such (length t) s p, ← is, e, place) }
+    no-place e = record { replies = sym (place-none t s p l outside) }
+      where
+        outside : NoPlace t s p
+        outside =
+            elim (decLe 1 p) [
+              | no z ↦ inl (omega arith)
+              | yes z ↦ elim (decLe (s + 2 * p) (length t)) [
+                | no m ↦ inr (omega arith)
+                | yes m ↦ absurd (true≢false (sym (rw (le-leb 1 p z, le-leb (s + 2 * p) (length t) m) at is) ∙ e))
+              ]
+            ]
 
     pub place-within : fits ≡ true → (1 ≤ p) × (s + 2 * p ≤ length t)
     place-within e =
@@ -236,39 +231,28 @@ module _ (t : List ℕ) (s p : ℕ) where
     stands-same e =
         let w = place-within e in rw (le-leb 1 p (w .0), le-leb (s + 2 * p) (length t) (w .1))
 
-    place-answer : fits ≡ true → {same : Bool} → same ≡ same-letters t s (s + p) p
-        → PlacePromise t s p (cond same reply-place.Stands reply-place.DoesNotStand)
-    unfolding place
-    place-answer e {same} f =
-        record {
-          replies =
-              rw (le-ltb length-limit (length t) l, no-such (length t) s p, ← is, e, place)
-              (rw (← (f ∙ stands-same e)) (go same));
-        }
-      where
-        go : (same : Bool) → let r = cond same reply-place.Stands reply-place.DoesNotStand in
-            reply (place-number r) (place-values r) ≡ reply 0 (one-if same ∷ [])
-        go true = refl
-        go false = refl
+    module _ (e : fits ≡ true) {same : Bool} (f : same ≡ same-letters t s (s + p) p) where
+      answer-is : reply 0 (one-if same ∷ []) ≡ place t s p
+      answer-is =
+          let w = place-within e in
+          ap (λ (b : Bool). reply 0 (one-if b ∷ [])) (f ∙ stands-same e) ∙ sym (place-taken t s p l (w .0) (w .1))
 
-    pub place-yes : fits ≡ true → {same : Bool} → same ≡ same-letters t s (s + p) p → same ≡ true
-        → PlacePromise t s p reply-place.Stands
-    place-yes e f g = rw g at (place-answer e f)
+      pub place-yes : same ≡ true → PlacePromise t s p reply-place.Stands
+      place-yes g = record { replies = rw g at answer-is }
 
-    pub place-no : fits ≡ true → {same : Bool} → same ≡ same-letters t s (s + p) p → same ≡ false
-        → PlacePromise t s p reply-place.DoesNotStand
-    place-no e f g = rw g at (place-answer e f)
+      pub place-no : same ≡ false → PlacePromise t s p reply-place.DoesNotStand
+      place-no g = record { replies = rw g at answer-is }
 
 -- ---- the room question
 
 module _ (n : ℕ) where
   pub room-long : length-limit < n → RoomPromise n reply-room.TextTooLong
-  unfolding room-question
-  room-long l = record { replies = rw (lt-ltb length-limit n l, room-question) }
+  room-long l = record { replies = sym (room-refused n l) }
 
-  pub room-fits : n ≤ length-limit → {d : ℕ} → d ≡ depth n → n * d ≤ length-limit * greatest-depth
-  room-fits l e = rw e (mul-le-mul l (depth-greatest n l))
+  module _ (l : n ≤ length-limit) {d : ℕ} (e : d ≡ depth n) where
+    pub room-fits : n * d ≤ length-limit * greatest-depth
+    room-fits = rw e (mul-le-mul l (depth-greatest n l))
 
-  pub room-promise : n ≤ length-limit → {d : ℕ} → d ≡ depth n → RoomPromise n (reply-room.Blocks (n * d))
-  unfolding room-question room-for
-  room-promise l e = record { replies = rw (le-ltb length-limit n l, room-question, e) }
+    pub room-promise : RoomPromise n (reply-room.Blocks (n * d))
+    unfolding room-for
+    room-promise = record { replies = ap (λ (d : ℕ). reply 0 (n * d ∷ [])) e ∙ sym (room-taken n l) }

@@ -1,21 +1,19 @@
--- What is written in a report is read back from it, and all else in lent memory is as before. Assumes nothing.
+-- What is written in a report is read back from it, and all else in it is as before. Assumes nothing.
 use Prim.Native.Nat.{ℕ, suc, _*_, _≤_, min}
 use mathlib.Core.Path.{_≡_, refl, ap₂}
 use mathlib.Core.List.{List, [], _∷_, _++_, map, flatMap, append-assoc}
 use native.Mathlib.Omega.{arith}
-use lib.ListN.{length, take, drop, length-append, length-take, length-drop, length-replicate}
+use lib.ListN.{length, take, drop, length-append, length-take, length-drop}
 use lib.Seq.{take-all, drop-at, getD-append-seam, getD-append-add}
 use Rattle.repetition.specs.Numbers.{consecutive}
 use Rattle.repetition.specs.Blocks.{Block}
 use Rattle.repetition.specs.Limits.{numbers-per-block}
-use Rattle.repetition.specs.Memory.{numbers, room, over, written, block-at, blocks-in, cleared}
+use Rattle.repetition.specs.Memory.{numbers, room, over, written, block-at, blocks-in}
 
 pub length-numbers : (bs : List Block) → length (flatMap numbers bs) ≡ numbers-per-block * length bs
 unfolding flatMap
 length-numbers [] = refl
 length-numbers (b ∷ bs) = omega (arith, length-numbers bs)
-
--- ---- the report
 
 -- a block is read that comes after n others, whose numbers are xs
 one-read : (xs : List ℕ) (n : ℕ) (b : Block) (rest : List ℕ) → length xs ≡ numbers-per-block * n
@@ -62,9 +60,3 @@ module _ (bs : List Block) (report : List ℕ) where
   -- A list that fits is read back from the report.
   pub list-read : length bs ≤ room report → blocks-in (length bs) (written bs report) ≡ bs
   list-read fits = let all : fitting ≡ length bs = omega arith in rw (all, take-all) at leading-read
-
--- ---- the work space
-
-pub cleared-length : (n : ℕ) (work : List ℕ) → 2 * n ≤ length work → length (cleared n work) ≡ length work
-unfolding cleared over
-cleared-length n work fits = simp (length-append, length-drop, length-replicate) (omega arith)

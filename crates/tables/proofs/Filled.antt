@@ -6,7 +6,7 @@ use native.Mathlib.Nat.{add-assoc}
 use native.Mathlib.Omega.{arith}
 use lib.ListN.{length, getD, set, take, drop, length-map, List·getD-append}
 use lib.Seq.{paste, paste-zero, paste-suc, length-paste, length-paste-head, length-take-le}
-use lib.Seq.{getD-append-add, getD-take, getD-drop}
+use lib.Seq.{getD-append-add, getD-take}
 use Rattle.repetition.specs.Numbers.{consecutive}
 use Rattle.repetition.specs.Tables.{Table, match-at}
 use Rattle.repetition.proofs.Lists.{length-consecutive}
@@ -38,12 +38,6 @@ module _ (d : List ℕ) (at : ℕ) (s : List ℕ) (n : ℕ) (fits : at + n ≤ l
       ∙ getD-append-from (take at d) (take n s) (at + x) (omega (arith, front))
       ∙ ap (λ (y : ℕ). getD (take n s) y 0) {x = at + x - length (take at d)} {y = x} (omega (arith, front))
       ∙ getD-take n s x 0 l
-
-  getD-paste-after : (x : ℕ) → at + n ≤ x → getD (paste d at s n) x 0 ≡ getD d x 0
-  getD-paste-after x l =
-      getD-append-from (take at d ++ take n s) (drop (at + n) d) x (omega (arith, head))
-      ∙ getD-drop (at + n) d (x - length (take at d ++ take n s)) 0
-      ∙ ap (λ (y : ℕ). getD d y 0) {x = at + n + (x - length (take at d ++ take n s))} {y = x} (omega (arith, head))
 
 -- ---- a table's match lengths
 
@@ -90,10 +84,6 @@ module _ (m : Table) (at n : ℕ) (work : List ℕ) (reached : m .first + n ≤ 
   unfolding partly
   partly-before = getD-paste-before work (at + m .first) (lengths m) n fits enough
 
-  partly-after : (x : ℕ) → at + m .first + n ≤ x → getD (partly m at n work) x 0 ≡ getD work x 0
-  unfolding partly
-  partly-after = getD-paste-after work (at + m .first) (lengths m) n fits enough
-
 pub partly-none : (m : Table) (at : ℕ) (work : List ℕ) → work ≡ partly m at 0 work
 unfolding partly
 partly-none m at work = paste-zero work (at + m .first) (lengths m)
@@ -129,8 +119,3 @@ module _ {m : Table} {at : ℕ} {work : List ℕ} (lies : Lies m at work) where
   pub before-table : (x : ℕ) → x < at + m .first → getD (with-table m at work) x 0 ≡ getD work x 0
   unfolding with-table
   before-table = partly-before m at (length (m .walked) - m .first) work whole (lies .room)
-
-  pub after-table : (x : ℕ) → at + length (m .walked) ≤ x → getD (with-table m at work) x 0 ≡ getD work x 0
-  unfolding with-table
-  after-table x l =
-      partly-after m at (length (m .walked) - m .first) work whole (lies .room) x (omega (arith, lies))

@@ -1,5 +1,5 @@
 -- What stands in the work space with the four tables of a part in it, and with the first of them. Assumes nothing.
-use Prim.Native.Nat.{ℕ, _+_, _-_, _*_, _≤_, _<_}
+use Prim.Native.Nat.{ℕ, _+_, _-_, _≤_, _<_}
 use mathlib.Core.Path.{_≡_, _∙_}
 use mathlib.Core.List.{List, reverse}
 use native.Mathlib.Nat.{zero-add}
@@ -12,7 +12,7 @@ use Rattle.repetition.proofs.Cutting.{cut-inside}
 use Rattle.repetition.proofs.Reading.{size-u, size-v}
 use Rattle.tables.specs.Walks.{with-table}
 use Rattle.tables.specs.Parts.{letters, letters-v, with-tables, PartPlaced}
-use Rattle.tables.proofs.Filled.{Lies, length-with-table, table-entry, before-table, after-table}
+use Rattle.tables.proofs.Filled.{Lies, length-with-table, table-entry, before-table}
 
 -- ---- the work space after the first tables
 
@@ -110,10 +110,3 @@ module _ (t work : List ℕ) (q : Part) (placed : PartPlaced t work q) where
       → getD (with-tables t q work) (letters q + letters-v q + i) 0 ≡ match-at (u-against-v t q) i
   unfolding with-tables
   u-against-entry i l = table-entry lies-4 i (omega arith) (omega (arith, sizes))
-
-  -- the numbers beyond the tables are as before
-  pub beyond-tables : (x : ℕ) → 2 * letters q ≤ x → getD (with-tables t q work) x 0 ≡ getD work x 0
-  unfolding with-tables
-  beyond-tables x l =
-      after-table lies-4 x (omega (arith, sizes)) ∙ after-table lies-3 x (omega (arith, sizes))
-      ∙ after-table lies-2 x (omega (arith, sizes)) ∙ after-table lies-1 x (omega (arith, sizes))

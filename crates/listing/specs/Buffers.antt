@@ -1,0 +1,44 @@
+-- What the contracts say of buffers that letters are put into.
+use Prim.Native.Nat.{ℕ, _+_, _≤_}
+use mathlib.Core.Path.{_≡_}
+use mathlib.Core.List.{List, _++_}
+use lib.ListN.{length, take}
+use Rattle.listing.specs.declared.input.Input.{Input}
+use Rattle.listing.specs.declared.input.Input.the-variants as input
+use Rattle.io.specs.Counts.{Counts}
+
+-- a buffer has room for n letters from a place on
+pub record Room (buffer : List ℕ) (at n : ℕ) : Type 0 where
+  pub fits : at + n ≤ length buffer
+
+-- letters are put into a buffer at a place: what is before them stays, and they end at a place within it
+pub record Put (buffer : List ℕ) (at : ℕ) (letters : List ℕ) (left : List ℕ) (end : ℕ) : Type 0 where
+  pub within : end ≤ length left
+  pub front : take end left ≡ take at buffer ++ letters
+
+-- the text so far had n letters, has more or as many, and at most as many as there is room for
+abbrev pub ReadFrom : ℕ → ℕ → Input → Type 0
+ReadFrom n room (input.Text m) = (n ≤ m) × (m ≤ room)
+ReadFrom n room input.Failed = Unit {0}
+
+-- the text lies in the buffer
+abbrev pub ReadInto : List ℕ → Input → Type 0
+ReadInto buffer (input.Text n) = Counts n buffer
+ReadInto buffer input.Failed = Unit {0}
+
+-- letters that a number of 16 bits and one of 32 bits have at most, with the one after it
+abbrev pub number-room : ℕ
+number-room = 6
+
+abbrev pub count-room : ℕ
+count-room = 11
+
+-- letters that a line, a header and the whole output have at most
+abbrev pub line-room : ℕ
+line-room = 18
+
+abbrev pub header-room : ℕ
+header-room = 46
+
+abbrev pub output-room : ℕ
+output-room = 36_046

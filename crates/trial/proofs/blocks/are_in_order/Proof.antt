@@ -1,0 +1,26 @@
+-- `trial::blocks::are_in_order` is safe and ends. The measure is the blocks left. Assumes nothing.
+use Prim.Native.Nat.{_-_}
+use borrow.Author.Needs.{needs}
+use Rattle.trial.proofs.blocks.are_in_order.Statement.{statement}
+use Rattle.trial.proofs.blocks.are_in_order.Tie as tie
+
+abbrev Inv-loop : tie.InvT-loop
+Inv-loop list place₀ place-end place = Unit {0}
+
+abbrev μ-loop : tie.MeasureT-loop
+μ-loop list place₀ place-end place = place-end - place
+
+pub are-in-order-spec : {M : Type 1} → statement M
+are-in-order-spec =
+    tie.close
+    (tie.spec
+    Inv-loop
+    μ-loop
+    (λ c. search needs)
+    (λ c κs. search needs)
+    (λ c κs. search needs)
+    (λ c. search needs)
+    (λ c. search needs)
+    (λ c. search needs)
+    (λ c. search needs)
+    (λ c. search needs))

@@ -1,0 +1,14 @@
+-- `trial::brute::most_blocks` meets its contract. Assumes nothing.
+use native.Mathlib.Nat.{mul-le-mul-left}
+use native.Mathlib.Omega.{arith}
+use borrow.Author.Needs.{needs}
+use Rattle.trial.proofs.brute.most_blocks.Statement.{statement}
+use Rattle.trial.proofs.brute.most_blocks.Tie as tie
+
+pub most-blocks-spec : {M : Type 1} → statement M
+most-blocks-spec =
+    tie.close
+    (tie.spec
+    (λ c κs. search needs)
+    (λ c. omega (arith, mul-le-mul-left (c .before .args .letters) (c .depth .ensures)))
+    (λ c. mul-le-mul-left _ (c .depth .ensures)))

@@ -47,7 +47,7 @@ spelled-many k n l = rw (le-ltb n 10 l, spelled)
 digits-few : (k r n : ℕ) → n < 10 → Fewest 10 1 n (suc r) → digits 10 (suc r) n ≡ spelled (suc k) n
 digits-few k r n l f = rw (one-digit r n l f, mod-eq-of-lt l, spelled-few k n l) (glyph-digit n l)
 
-pub digits-spelled : (k r n : ℕ) → Fewest 10 1 n r → n < 10 ^ suc k → digits 10 r n ≡ spelled (suc k) n
+digits-spelled : (k r n : ℕ) → Fewest 10 1 n r → n < 10 ^ suc k → digits 10 r n ≡ spelled (suc k) n
 digits-spelled k zero n f l = absurd (omega (arith, f .0))
 digits-spelled zero (suc r) n f l = digits-few 0 r n l f
 digits-spelled (suc k) (suc r) n f l =
@@ -59,7 +59,7 @@ digits-spelled (suc k) (suc r) n f l =
           (glyph-digit (n % 10) (mod-lt n (lit< tt))))
     ]
 
-pub spelled-length : (k j n : ℕ) → n < 10 ^ suc j → length (spelled k n) ≤ suc j
+spelled-length : (k j n : ℕ) → n < 10 ^ suc j → length (spelled k n) ≤ suc j
 unfolding spelled
 spelled-length zero j n l = omega arith
 spelled-length (suc k) zero n l = rw (spelled-few k n l) (omega arith)

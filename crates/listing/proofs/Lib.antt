@@ -1,4 +1,4 @@
--- The laws by which src/ is proved: one thing put into a buffer after another, and numbers in decimal.
+-- Examples has document 01's output for `aaaa`. The others are the laws by which src/ is proved, from the leaves up.
 pub mod Examples
 pub mod Puts
 pub mod Decimals

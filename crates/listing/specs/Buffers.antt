@@ -1,11 +1,11 @@
--- What the contracts say of buffers that letters are put into.
+-- What the contracts say of buffers: letters that are read into one, and letters that are put into one.
 use Prim.Native.Nat.{ℕ, _+_, _≤_}
 use mathlib.Core.Path.{_≡_}
 use mathlib.Core.List.{List, _++_}
 use lib.ListN.{length, take}
+use Rattle.io.specs.Counts.{Counts}
 use Rattle.listing.specs.declared.input.Input.{Input}
 use Rattle.listing.specs.declared.input.Input.the-variants as input
-use Rattle.io.specs.Counts.{Counts}
 
 -- a buffer has room for n letters from a place on
 pub record Room (buffer : List ℕ) (at n : ℕ) : Type 0 where

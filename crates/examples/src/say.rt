@@ -7,14 +7,10 @@ pub fn words(words: &[u8]) {
     io::write_all(STDOUT_FILENO, words);
 }
 
-pub fn number(number: u64) {
-    io::print_decimal(STDOUT_FILENO, number);
-}
-
 // Words, a number and more words.
 pub fn count(before: &[u8], count: u64, after: &[u8]) {
     words(before);
-    number(count);
+    io::print_decimal(STDOUT_FILENO, count);
     words(after);
 }
 

@@ -44,17 +44,17 @@ fn depth(letters: usize) -> usize
     depth
 }
 
-// The most blocks that a text of so many letters may have: the letters times the depth.
-pub fn most_blocks(letters: usize) -> usize
+// The bound on the blocks of a text: its letters times their depth.
+pub fn block_bound(letters: usize) -> usize
     requires { do ⌜ letters ≤ (← ⟦MOST_LETTERS⟧) ⌝ }
     ensures { λ r. do ⌜ r ≤ letters * (← ⟦MOST_LETTERS⟧ .entry) ⌝ }
 {
     letters * depth(letters)
 }
 
-// The most comparisons that it may take: four for each of these.
-pub fn most_comparisons(letters: usize) -> usize
+// The bound on its comparisons: four times as many.
+pub fn comparison_bound(letters: usize) -> usize
     requires { do ⌜ letters ≤ (← ⟦MOST_LETTERS⟧) ⌝ }
 {
-    4 * most_blocks(letters)
+    4 * block_bound(letters)
 }

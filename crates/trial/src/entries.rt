@@ -60,9 +60,9 @@ fn longest_agrees(said: Longest, list: &[u16], greatest_half: usize) -> bool {
     }
 }
 
-fn room_agrees(said: Room, most_blocks: usize) -> bool {
+fn room_agrees(said: Room, block_bound: usize) -> bool {
     match said {
-        Room::Blocks(blocks) => blocks as usize == most_blocks,
+        Room::Blocks(blocks) => blocks as usize == block_bound,
         Room::TextTooLong => false,
     }
 }
@@ -89,21 +89,21 @@ fn judge(
 ) -> Counts
     requires { do ⌜ length (now text) ≤ (← ⟦MOST_LETTERS⟧) ⌝ }
 {
-    let most_blocks = brute::most_blocks(text.len());
-    let most_comparisons = brute::most_comparisons(text.len());
+    let block_bound = brute::block_bound(text.len());
+    let comparison_bound = brute::comparison_bound(text.len());
     let totals = totals_of(listing);
     let numbers = blocks::numbers_of(totals.blocks, report);
     let list = &report[..numbers];
     let seen = places::try_all(text, list);
     counts_of(totals, seen)
         .judged(is_finished(listing))
-        .judged(totals.blocks as usize <= most_blocks)
-        .judged(totals.comparisons as usize <= most_comparisons)
+        .judged(totals.blocks as usize <= block_bound)
+        .judged(totals.comparisons as usize <= comparison_bound)
         .judged(blocks::starts(list) == seen.repetitions)
         .judged(blocks::are_in_order(list))
         .judged(longest_agrees(longest, list, seen.greatest_half))
         .judged(freedom_agrees(freedom, seen.repetitions))
-        .judged(room_agrees(room, most_blocks))
+        .judged(room_agrees(room, block_bound))
 }
 
 fn try_entries(text: &[u8], work: &mut [u16], report: &mut [u16]) -> Counts
@@ -125,7 +125,7 @@ pub fn try_text(text: &[u8]) -> Counts
     let letters = text.len();
     let needed = blocks::at_most(2 * letters, &work);
     let room = blocks::at_most(
-        Finder::NUMBERS_PER_BLOCK * brute::most_blocks(letters),
+        Finder::NUMBERS_PER_BLOCK * brute::block_bound(letters),
         &report,
     );
     try_entries(text, &mut work[..needed], &mut report[..room])

@@ -1,12 +1,12 @@
--- `trial::brute::most_blocks` meets its contract. Assumes nothing.
+-- `trial::brute::block_bound` meets its contract. Assumes nothing.
 use native.Mathlib.Nat.{mul-le-mul-left}
 use native.Mathlib.Omega.{arith}
 use borrow.Author.Needs.{needs}
-use Rattle.trial.proofs.brute.most_blocks.Statement.{statement}
-use Rattle.trial.proofs.brute.most_blocks.Tie as tie
+use Rattle.trial.proofs.brute.block_bound.Statement.{statement}
+use Rattle.trial.proofs.brute.block_bound.Tie as tie
 
-pub most-blocks-spec : {M : Type 1} → statement M
-most-blocks-spec =
+pub block-bound-spec : {M : Type 1} → statement M
+block-bound-spec =
     tie.close
     (tie.spec
     (λ c κs. search needs)

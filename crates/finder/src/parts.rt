@@ -53,11 +53,16 @@ pub fn find(
         ≡ found-all (now (text .entry)) (kept (now (report .entry)) tally) (parts from to) ⌝ }
     ensures { λ _. ⌜ now (work .exit) ≡ tables-left (now (text .entry)) (now (work .entry)) (parts from to) ⌝ }
 {
-    if to - from < 2 {
+    let letters = to - from;
+    if letters < 2 {
         return tally;
     }
     let cut = tables::cut_at(from, to);
     let here = find_part(text, work, report, from, to, tally);
+    // Each piece of two letters has one.
+    if letters == 2 {
+        return here;
+    }
     let with_left = find(text, work, report, from, cut, here);
     find(text, work, report, cut, to, with_left)
 }

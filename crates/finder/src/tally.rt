@@ -65,9 +65,8 @@ fn write(report: &mut [u16], blocks: u32, half: usize, first: usize, last: usize
     requires { ⌜ CanWrite (block half first last) ⌝ }
     ensures { λ _. ⌜ now (report .exit) ≡ with-block blocks (block half first last) (now (report .entry)) ⌝ }
 {
-    let place = blocks as usize;
-    if place < report.len() / Finder::NUMBERS_PER_BLOCK {
-        let at = Finder::NUMBERS_PER_BLOCK * place;
+    let at = Finder::NUMBERS_PER_BLOCK * blocks as usize;
+    if at + Finder::NUMBERS_PER_BLOCK <= report.len() {
         report[at] = half as u16;
         report[at + 1] = first as u16;
         report[at + 2] = last as u16;

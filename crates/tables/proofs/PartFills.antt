@@ -9,44 +9,25 @@ use lib.ListN.{length}
 use Rattle.repetition.specs.Cutting.{Part, cut-of}
 use Rattle.repetition.specs.Tables.{v-itself, u-back-itself, v-back-against-u-back}
 use Rattle.repetition.specs.Comparisons.{table-cost, part-comparisons}
+use Rattle.repetition.proofs.Cutting.{cut-halves}
 use Rattle.repetition.proofs.Walking.{table-cost-bound}
-use Rattle.tables.specs.declared.piece.Piece.{Piece}
+use Rattle.tables.specs.declared.Four.{Four}
 use Rattle.tables.specs.declared.walk.TableAt.{TableAt}
-use Rattle.tables.specs.Pieces.{read}
-use Rattle.tables.specs.Walks.{itself-at, against-at, table-of, with-table, this, earlier, CanFill}
-use Rattle.tables.specs.Parts.{letters, letters-v, with-tables, CanFillPart}
+use Rattle.tables.specs.Pieces.{size, read}
+use Rattle.tables.specs.Walks.{table-of, with-table, this, earlier, CanFill, CanFillShort}
+use Rattle.tables.specs.Parts.{letters, letters-v, four-at, with-tables, CanFillPart}
 use Rattle.tables.proofs.Parts.{after-1, after-2, after-3, Sizes, sizes, length-1, length-2, length-3}
 use Rattle.tables.proofs.Parts.{u-back-stands, v-stands}
 
--- ---- the four tables, as they are placed by a cut c
-
-abbrev u-of : Part → ℕ → Piece
-u-of q c = record { from = q .from; to = c }
-
-abbrev v-of : Part → ℕ → Piece
-v-of q c = record { from = c; to = q .to }
-
-abbrev v-itself-at : Part → ℕ → TableAt
-v-itself-at q c = itself-at (v-of q c) false 0
-
-abbrev u-back-at : Part → ℕ → TableAt
-u-back-at q c = itself-at (u-of q c) true (q .to - c)
-
-abbrev v-back-at : Part → ℕ → TableAt
-v-back-at q c = against-at (v-of q c) (u-of q c) true (q .to - c) (letters q)
-
-abbrev u-against-at : Part → ℕ → TableAt
-u-against-at q c = against-at (u-of q c) (v-of q c) false 0 (letters q + (q .to - c))
-
 -- ---- what the first tables cost
 
-abbrev pub cost-1 : List ℕ → Part → ℕ
+abbrev cost-1 : List ℕ → Part → ℕ
 cost-1 t q = table-cost (v-itself t q)
 
-abbrev pub cost-2 : List ℕ → Part → ℕ
+abbrev cost-2 : List ℕ → Part → ℕ
 cost-2 t q = cost-1 t q + table-cost (u-back-itself t q)
 
-abbrev pub cost-3 : List ℕ → Part → ℕ
+abbrev cost-3 : List ℕ → Part → ℕ
 cost-3 t q = cost-2 t q + table-cost (v-back-against-u-back t q)
 
 -- ---- each table can be filled
@@ -67,17 +48,17 @@ module _ (t work : List ℕ) (q : Part) (count : ℕ) (can : CanFillPart t work 
       let three = table-cost-bound (v-back-against-u-back t q) (omega arith) in
       record { sized = s; one = omega (arith, s); two = omega (arith, s); three = omega (arith, s) }
 
-  can-fill-1 : CanFill t work (v-itself-at q (cut-of q)) count
+  can-fill-1 : CanFill t work (four-at q .first) count
   can-fill-1 = record { placed = omega (arith, bounds, can); own = this refl refl refl; fits = omega (arith, bounds, can) }
 
   can-fill-2 : {n : ℕ} {w : List ℕ} → (n ≡ count + cost-1 t q) × (w ≡ after-1 t q work)
-      → CanFill t w (u-back-at q (cut-of q)) n
+      → CanFill t w (four-at q .second) n
   can-fill-2 (cost, e) =
       let same = ap length e ∙ length-1 t work q (can .placed) in
       record { placed = omega (arith, bounds, can); own = this refl refl refl; fits = omega (arith, bounds, can) }
 
   can-fill-3 : {n : ℕ} {w : List ℕ} → (n ≡ count + cost-2 t q) × (w ≡ after-2 t q work)
-      → CanFill t w (v-back-at q (cut-of q)) n
+      → CanFill t w (four-at q .third) n
   unfolding read
   can-fill-3 (cost, e) =
       let same = ap length e ∙ length-2 t work q (can .placed) in
@@ -88,7 +69,7 @@ module _ (t work : List ℕ) (q : Part) (count : ℕ) (can : CanFillPart t work 
       }
 
   can-fill-4 : {n : ℕ} {w : List ℕ} → (n ≡ count + cost-3 t q) × (w ≡ after-3 t q work)
-      → CanFill t w (u-against-at q (cut-of q)) n
+      → CanFill t w (four-at q .fourth) n
   unfolding read
   can-fill-4 (cost, e) =
       let same = ap length e ∙ length-3 t work q (can .placed) in
@@ -106,37 +87,48 @@ module _ (t work : List ℕ) (q : Part) (count : ℕ) (can : CanFillPart t work 
 abbrev Fills : List ℕ → TableAt → ℕ → List ℕ → ℕ → List ℕ → Type 0
 Fills t a count work n w = (n ≡ count + table-cost (table-of t a)) × (w ≡ with-table (table-of t a) (a .at) work)
 
-module _ (t work : List ℕ) (q : Part) (count : ℕ) (can : CanFillPart t work q count) (c : ℕ) (e : c ≡ cut-of q)
-    {a : TableAt} where
-  pub fill-1 : a ≡ v-itself-at q c → CanFill t work a count
-  fill-1 table = rw (table, e) (can-fill-1 t work q count can)
+module _ (t work : List ℕ) (q : Part) (count : ℕ) (can : CanFillPart t work q count) {four : Four} (e : four ≡ four-at q) where
+  pub fill-1 : CanFill t work (four .first) count
+  fill-1 = rw e (can-fill-1 t work q count can)
 
-  module _ {n : ℕ} {w : List ℕ} where
-    pub left-1 : a ≡ v-itself-at q c → Fills t a count work n w → (n ≡ count + cost-1 t q) × (w ≡ after-1 t q work)
+  module _ {n₁ : ℕ} {w₁ : List ℕ} (f₁ : Fills t (four .first) count work n₁ w₁) where
+    left-1 : (n₁ ≡ count + cost-1 t q) × (w₁ ≡ after-1 t q work)
     unfolding read
-    left-1 table f = rw (table, e) at f
+    left-1 = rw e at f₁
 
-    pub fill-2 : (n ≡ count + cost-1 t q) × (w ≡ after-1 t q work) → a ≡ u-back-at q c → CanFill t w a n
-    fill-2 left table = rw (table, e) (can-fill-2 t work q count can left)
+    pub fill-2 : CanFill t w₁ (four .second) n₁
+    fill-2 = rw e (can-fill-2 t work q count can left-1)
 
-    pub fill-3 : (n ≡ count + cost-2 t q) × (w ≡ after-2 t q work) → a ≡ v-back-at q c → CanFill t w a n
-    fill-3 left table = rw (table, e) (can-fill-3 t work q count can left)
-
-    pub fill-4 : (n ≡ count + cost-3 t q) × (w ≡ after-3 t q work) → a ≡ u-against-at q c → CanFill t w a n
-    fill-4 left table = rw (table, e) (can-fill-4 t work q count can left)
-
-    module _ {n′ : ℕ} {w′ : List ℕ} where
-      pub left-2 : (n ≡ count + cost-1 t q) × (w ≡ after-1 t q work) → a ≡ u-back-at q c → Fills t a n w n′ w′
-          → (n′ ≡ count + cost-2 t q) × (w′ ≡ after-2 t q work)
+    module _ {n₂ : ℕ} {w₂ : List ℕ} (f₂ : Fills t (four .second) n₁ w₁ n₂ w₂) where
+      left-2 : (n₂ ≡ count + cost-2 t q) × (w₂ ≡ after-2 t q work)
       unfolding read
-      left-2 left table f = let g = rw (table, e, left .1) at f in (omega arith, g .1)
+      left-2 = let l = left-1 in let g = rw (e, l .1) at f₂ in (omega arith, g .1)
 
-      pub left-3 : (n ≡ count + cost-2 t q) × (w ≡ after-2 t q work) → a ≡ v-back-at q c → Fills t a n w n′ w′
-          → (n′ ≡ count + cost-3 t q) × (w′ ≡ after-3 t q work)
-      unfolding read
-      left-3 left table f = let g = rw (table, e, left .1) at f in (omega arith, g .1)
+      pub fill-3 : CanFill t w₂ (four .third) n₂
+      fill-3 = rw e (can-fill-3 t work q count can left-2)
 
-      pub left-4 : (n ≡ count + cost-3 t q) × (w ≡ after-3 t q work) → a ≡ u-against-at q c → Fills t a n w n′ w′
-          → (n′ ≡ count + part-comparisons t q) × (w′ ≡ with-tables t q work)
-      unfolding read part-comparisons with-tables
-      left-4 left table f = let g = rw (table, e, left .1) at f in (omega arith, g .1)
+      module _ {n₃ : ℕ} {w₃ : List ℕ} (f₃ : Fills t (four .third) n₂ w₂ n₃ w₃) where
+        left-3 : (n₃ ≡ count + cost-3 t q) × (w₃ ≡ after-3 t q work)
+        unfolding read
+        left-3 = let l = left-2 in let g = rw (e, l .1) at f₃ in (omega arith, g .1)
+
+        pub fill-4 : CanFill t w₃ (four .fourth) n₃
+        fill-4 = rw e (can-fill-4 t work q count can left-3)
+
+        pub four-filled : {n₄ : ℕ} {w₄ : List ℕ} → Fills t (four .fourth) n₃ w₃ n₄ w₄
+            → (n₄ ≡ count + part-comparisons t q) × (w₄ ≡ with-tables t q work)
+        unfolding read part-comparisons with-tables
+        four-filled f₄ = let l = left-3 in let g = rw (e, l .1) at f₄ in (omega arith, g .1)
+
+-- ---- a small part
+
+-- Both pieces of a table have at most two letters.
+abbrev Short : TableAt → Type 0
+Short a = (size (a .walked) ≤ 2) × (size (a .pattern) ≤ 2)
+
+pub shortly : {t work : List ℕ} {a : TableAt} {count : ℕ} → CanFill t work a count → Short a → CanFillShort t work a count
+shortly can short = record { fills = can; short-walked = short .0; short-pattern = short .1 }
+
+pub small : (q : Part) {four : Four} → four ≡ four-at q → letters q ≤ 4
+    → Short (four .first) × Short (four .second) × Short (four .third) × Short (four .fourth)
+small q e l = rw e (let h = cut-halves (q .from) (q .to) 2 l in omega arith)

@@ -6,10 +6,11 @@ use mathlib.Core.List.{List}
 use native.Mathlib.Nat.{zero-add, add-zero, add-assoc, le-antisymm}
 use native.Mathlib.Omega.{arith, by-contra}
 use lib.ListN.{length, getD, drop, length-drop}
-use lib.Dec.{eqb}
+use lib.Dec.{eqb, ltb}
 use lib.Seq.{getD-drop}
-use borrow.Author.Tests.{eqb-true, eqb-false, le-ltb, lt-ltb}
+use borrow.Author.Tests.{eqb-true, eqb-false, eq-eqb, ltb-true, le-ltb, lt-ltb}
 use Rattle.repetition.specs.Tables.{matched}
+use Rattle.repetition.proofs.Lists.{same-test}
 use Rattle.repetition.proofs.Agreement.{Run, run-of, match-run}
 use Rattle.tables.specs.declared.piece.Piece.{Piece}
 use Rattle.tables.specs.declared.look.Looked.{Looked}
@@ -62,6 +63,16 @@ module _ (t : List ℕ) (back : Bool) where
       (omega (arith, length-ahead a room ha, length-ahead b room hb))
       (λ x l. letter-ahead a room x ha l)
       (λ x l. letter-ahead b room x hb l)
+
+  -- A look at the first letters tells whether there is a match.
+  pub first-same : (a b room : ℕ) → Reads (length t) back a room → Reads (length t) back b room → 0 < room
+      → eqb (getD t (letter-place back a 0) 0) (getD t (letter-place back b 0) 0) ≡ ltb 0 (common t back a b room)
+  first-same a b room ha hb l =
+      let run = common-run a b room ha hb in
+      let L = common t back a b room in
+      same-test (eqb (getD t (letter-place back a 0) 0) (getD t (letter-place back b 0) 0)) (ltb 0 L)
+      (λ h. lt-ltb 0 L (omega (arith, run-on run 0 l (omega arith) (eqb-true _ _ h))))
+      (λ h. eq-eqb _ _ (run .all 0 (ltb-true 0 L h)))
 
   -- A scan from position i of a piece and from the start of another, the pattern, finds the match length there.
   pub match-common : (pattern walked : Piece) (i : ℕ)

@@ -102,7 +102,7 @@ fn scan_at(text: &[u8], work: &mut [u16], table: TableAt, i: usize, known: usize
     }
 }
 
-// The same, with no scan where the letters known to be the same end with the walked piece.
+// Finds the match length of position i by a scan, or by no look at all where the letters known to be the same end with the walked piece.
 fn settle_at(
     text: &[u8],
     work: &mut [u16],

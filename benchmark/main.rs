@@ -1,8 +1,10 @@
 // Times porthwynna_list beside the same algorithm in plain C and in safe Rust, and prints the tables of docs/BENCHMARK.md.
 // `once WHO KIND`, by numbers, makes one call at the greatest length and nothing more: valgrind counts its instructions.
-#[allow(dead_code)]
 #[path = "../rust/tests/reference/fast.rs"]
 mod fast;
+#[allow(dead_code)]
+#[path = "../rust/src/sys.rs"]
+mod sys;
 mod texts;
 
 use std::hint::black_box;
@@ -16,17 +18,19 @@ const ROUNDS: usize = 150;
 /// Numbers of a report that has room for the blocks of any text of so many bytes: three for each of n times D.
 const REPORT: usize = 3 * LONGEST * 14;
 
+/// A list as it is exported: text, work space, report and answer, each a pointer and a length.
+type Exported = unsafe extern "C" fn(
+    *const u8,
+    usize,
+    *mut u16,
+    usize,
+    *mut u16,
+    usize,
+    *mut u32,
+    usize,
+) -> u32;
+
 extern "C" {
-    fn porthwynna_list(
-        text: *const u8,
-        text_len: usize,
-        work: *mut u16,
-        work_len: usize,
-        report: *mut u16,
-        report_len: usize,
-        answer: *mut u32,
-        answer_len: usize,
-    ) -> u32;
     fn plain_list(
         text: *const u8,
         text_len: usize,
@@ -41,10 +45,16 @@ extern "C" {
 
 type List = fn(&[u8], &mut [u16], &mut [u16], &mut [u32]) -> u32;
 
-fn ours(text: &[u8], work: &mut [u16], report: &mut [u16], answer: &mut [u32]) -> u32 {
+fn call(
+    exported: Exported,
+    text: &[u8],
+    work: &mut [u16],
+    report: &mut [u16],
+    answer: &mut [u32],
+) -> u32 {
     // SAFETY: each pointer is a slice's, with its length, and no two slices overlap.
     unsafe {
-        porthwynna_list(
+        exported(
             text.as_ptr(),
             text.len(),
             work.as_mut_ptr(),
@@ -57,20 +67,12 @@ fn ours(text: &[u8], work: &mut [u16], report: &mut [u16], answer: &mut [u32]) -
     }
 }
 
+fn ours(text: &[u8], work: &mut [u16], report: &mut [u16], answer: &mut [u32]) -> u32 {
+    call(sys::porthwynna_list, text, work, report, answer)
+}
+
 fn plain(text: &[u8], work: &mut [u16], report: &mut [u16], answer: &mut [u32]) -> u32 {
-    // SAFETY: as above.
-    unsafe {
-        plain_list(
-            text.as_ptr(),
-            text.len(),
-            work.as_mut_ptr(),
-            work.len(),
-            report.as_mut_ptr(),
-            report.len(),
-            answer.as_mut_ptr(),
-            answer.len(),
-        )
-    }
+    call(plain_list, text, work, report, answer)
 }
 
 /// By its own name in the program, for valgrind.

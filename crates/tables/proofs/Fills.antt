@@ -23,6 +23,15 @@ use Rattle.tables.proofs.Walks.{length-walked, match-within, cost-fits,
 use Rattle.tables.proofs.Walks.{Passed, passed, last-own, last-look, stop-at-match, stop-at-end}
 use Rattle.tables.proofs.Filled.{partly-none, partly-next}
 
+-- ---- places within their bounds
+
+module _ {t work : List ℕ} {a : TableAt} {n : ℕ} (f : Filled t work a n) where
+  pub first-fits : a .first + n < 2 ^ 64
+  first-fits = omega (arith, f .inside, f .placed .pieces, f .placed .limit)
+
+  pub entry-inside : a .first + n < size (a .walked) → a .at + (a .first + n) < length work
+  entry-inside l = omega (arith, f .placed)
+
 -- ---- how far a work space has come
 
 pub further-none : (t : List ℕ) (a : TableAt) (n : ℕ) (work : List ℕ) → Further t a n n work work
@@ -58,7 +67,12 @@ module _ (t work : List ℕ) (a : TableAt) (n : ℕ) (f : Filled t work a n) (l 
       record {
         placed =
             let e = same-length in
-            record { pieces = f .placed .pieces; own-room = omega (arith, f .placed); room = omega (arith, f .placed); limit = f .placed .limit };
+            record {
+              pieces = f .placed .pieces;
+              own-room = omega (arith, f .placed);
+              room = omega (arith, f .placed);
+              limit = f .placed .limit;
+            };
         own = own-next (f .own);
         inside = omega arith;
         stand = λ x h.
@@ -144,7 +158,7 @@ module _ (t work : List ℕ) (a : TableAt) (n : ℕ) (w : Walk) (s : Walked t wo
     follow-inside = omega (arith, asks t work a n (s .filled) w (s .walk) l)
 
     pub follow-entry : a .at + (a .first + n) < length work
-    follow-entry = omega (arith, follow-inside, s .filled .placed)
+    follow-entry = entry-inside (s .filled) follow-inside
 
     pub follow-short : w .e ≤ length-limit
     follow-short = omega (arith, asks t work a n (s .filled) w (s .walk) l, s .filled .placed, s .filled .placed .pieces)

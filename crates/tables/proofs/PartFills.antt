@@ -1,12 +1,11 @@
 -- The four tables of a part are filled one after the other: what each filling needs, and what it leaves. Assumes nothing.
 use Prim.Native.Nat.{ℕ, _+_, _-_, _*_, _≤_}
 use mathlib.Core.Path.{_≡_, refl, ap, _∙_}
-use mathlib.Core.Bool.{true, false}
 use mathlib.Core.List.{List}
 use native.Mathlib.Nat.{zero-add}
 use native.Mathlib.Omega.{arith}
 use lib.ListN.{length}
-use Rattle.repetition.specs.Cutting.{Part, cut-of}
+use Rattle.repetition.specs.Cutting.{Part}
 use Rattle.repetition.specs.Tables.{v-itself, u-back-itself, v-back-against-u-back}
 use Rattle.repetition.specs.Comparisons.{table-cost, part-comparisons}
 use Rattle.repetition.proofs.Cutting.{cut-halves}

@@ -102,7 +102,8 @@ fn scan_at(text: &[u8], work: &mut [u16], table: TableAt, i: usize, known: usize
     }
 }
 
-// Finds the match length of position i by a scan, or by no look at all where the letters known to be the same end with the walked piece.
+// Finds the match length of position i: by no look at all where the letters known to be the same end with the walked piece,
+// else by a scan.
 fn settle_at(
     text: &[u8],
     work: &mut [u16],

@@ -50,7 +50,8 @@ fill-short-requires-4 c κs =
     let one = one-of two in
     let d = four-for one in
     shortly
-    (fill-4 _ _ _ _ (start-of d .pre .0) (d .four-of .ensures) (one .fill-short .ensures) (two .fill-short2 .ensures) (three .fill-short3 .ensures))
+    (fill-4 _ _ _ _ (start-of d .pre .0) (d .four-of .ensures) (one .fill-short .ensures) (two .fill-short2 .ensures)
+    (three .fill-short3 .ensures))
     (small _ (d .four-of .ensures) (start-of d .pre .1) .3)
 
 returns : tie.Need-returns

@@ -5,7 +5,7 @@ use mathlib.Core.Path.{_≡_, _∙_}
 use native.Mathlib.Omega.{arith}
 use Rattle.tables.specs.Pieces.{size}
 use Rattle.tables.specs.Walks.{walk-of, Walked, Ended, Further}
-use Rattle.tables.proofs.Fills.{further-none, further-still, scan-walked, scan-further, stop-ends}
+use Rattle.tables.proofs.Fills.{first-fits, further-none, further-still, scan-walked, scan-further, stop-ends}
 use Rattle.tables.proofs.Fills.{fill-starts, fill-ends, fill-fits}
 use Rattle.tables.proofs.walk.fill.Statement.{statement}
 use Rattle.tables.proofs.walk.fill.Tie as tie
@@ -39,11 +39,12 @@ further c = further-still (loop-of c .loop .inv .2) (c .follow .ensures .1)
 
 add-i : tie.Need-add-i Inv-loop μ-loop
 add-i c =
-    let f = c .before .before .before .follow .ensures .0 .filled in
-    omega (arith, f .inside, f .placed .pieces, f .placed .limit)
+    record { fits = first-fits (c .before .before .before .follow .ensures .0 .filled) }
 
 settle-at-requires : tie.Need-settle-at-requires Inv-loop μ-loop
-settle-at-requires c κs = c .before .before .before .before .before .follow .ensures .0 .scannable (omega arith)
+settle-at-requires c κs =
+    let d = c .before .before .before .before .before in
+    d .follow .ensures .0 .scannable (rw (loop-of d .loop .inv .0) at (c .before .if1 .left))
 
 loop-less : tie.Need-loop-less Inv-loop μ-loop
 loop-less c =
@@ -54,17 +55,20 @@ loop-again : tie.Need-loop-again Inv-loop μ-loop
 loop-again c =
     let d = c .before .before .before .before .before .before .before .before .before in
     let stopped = d .follow .ensures .0 in
+    let inside = rw (loop-of d .loop .inv .0) at (c .before .before .before .before .before .if1 .left) in
     let e = c .before .before .before .settle-at .ensures in (
       loop-of d .loop .inv .0,
-      scan-walked _ _ _ _ stopped (omega arith) (e .1) (e .0),
-      scan-further _ _ _ _ stopped (omega arith) (e .1) (further d),
+      scan-walked _ _ _ _ stopped inside (e .1) (e .0),
+      scan-further _ _ _ _ stopped inside (e .1) (further d),
     )
 
 ends : (c : tie.Then1 Inv-loop μ-loop)
     → let d = c .before .before .before .before in
     let s = start-of d .args in
     Ended (s .text .now) (d .follow .last .1 .0) (s .table) (d .follow .result .n) (d .follow .result .cost)
-ends c = stop-ends _ _ _ _ (c .before .before .before .before .follow .ensures .0) (omega arith)
+ends c =
+    let d = c .before .before .before .before in
+    stop-ends _ _ _ _ (d .follow .ensures .0) (rw (loop-of d .loop .inv .0) at (c .if1 .taken))
 
 add-result : tie.Need-add-result Inv-loop μ-loop
 add-result c =

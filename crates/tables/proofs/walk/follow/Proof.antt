@@ -6,8 +6,8 @@ use native.Mathlib.Omega.{arith}
 use lib.ListN.{length}
 use Rattle.repetition.specs.Limits.{length-limit}
 use Rattle.tables.specs.Walks.{Walked, Further}
-use Rattle.tables.proofs.Fills.{further-none, further-still, follow-ends, follow-entry, follow-short, follow-reads, follow-stops}
-use Rattle.tables.proofs.Fills.{free-walked, free-further}
+use Rattle.tables.proofs.Fills.{first-fits, further-none, further-still, follow-ends, follow-entry, follow-short, follow-reads}
+use Rattle.tables.proofs.Fills.{follow-stops, free-walked, free-further}
 use Rattle.tables.proofs.walk.follow.Statement.{statement}
 use Rattle.tables.proofs.walk.follow.Tie as tie
 
@@ -34,7 +34,10 @@ loop-holds : tie.Need-loop-holds Inv-loop μ-loop
 loop-holds c = (c .before .before .pre, further-none _ _ _ _)
 
 add-if1 : tie.Need-add-if1 Inv-loop μ-loop
-add-if1 c = let f = c .before .loop .inv .0 .filled in omega (arith, f .inside, f .placed .pieces, f .placed .limit)
+add-if1 c = record { fits = first-fits (c .before .loop .inv .0 .filled) }
+
+add-i : tie.Need-add-i Inv-loop μ-loop
+add-i c = record { fits = first-fits (c .before .before .before .loop .inv .0 .filled) }
 
 own-length-requires : tie.Need-own-length-requires Inv-loop μ-loop
 own-length-requires c κs =
@@ -100,7 +103,7 @@ follow-spec =
     μ-loop
     loop-holds
     add-if1
-    (λ c. omega arith)
+    add-i
     (λ c. omega arith)
     own-length-requires
     same-length

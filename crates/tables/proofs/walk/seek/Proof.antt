@@ -1,11 +1,12 @@
 -- `tables::walk::seek` meets its contract. The loop's invariant: no record reaches the next position. The measure is the
 -- positions left. Assumes nothing.
-use Prim.Native.Nat.{_-_}
+use Prim.Native.Nat.{_+_, _-_, _<_}
 use mathlib.Core.Path.{_≡_}
 use native.Mathlib.Omega.{arith}
+use lib.ListN.{length}
 use Rattle.tables.specs.Pieces.{size}
 use Rattle.tables.specs.Walks.{Seeking, Further}
-use Rattle.tables.proofs.Fills.{further-none, seek-ends, seek-looks, seek-stops, seek-next, seek-further}
+use Rattle.tables.proofs.Fills.{first-fits, entry-inside, further-none, seek-ends, seek-looks, seek-stops, seek-next, seek-further}
 use Rattle.tables.proofs.walk.seek.Statement.{statement}
 use Rattle.tables.proofs.walk.seek.Tie as tie
 
@@ -28,37 +29,53 @@ size-of-requires c κs = omega (arith, c .before .before .pre .filled .placed .p
 loop-holds : tie.Need-loop-holds Inv-loop μ-loop
 loop-holds c = (c .size-of .ensures, c .before .before .before .pre, further-none _ _ _ _)
 
+-- the loop's test
+test-of : (c : tie.After-look-at Inv-loop μ-loop)
+    → let s = start-of (loop-of c) .args in
+    s .table .first + loop-of c .loop .on < size (s .table .walked)
+test-of c = rw (loop-of c .loop .inv .0) at (c .before .before .if1 .taken)
+
 add-if1 : tie.Need-add-if1 Inv-loop μ-loop
-add-if1 c = let f = c .before .loop .inv .1 .filled in omega (arith, f .inside, f .placed .pieces, f .placed .limit)
+add-if1 c = record { fits = first-fits (c .before .loop .inv .1 .filled) }
+
+add-i : tie.Need-add-i Inv-loop μ-loop
+add-i c = record { fits = first-fits (c .before .before .before .loop .inv .1 .filled) }
 
 look-at-requires : tie.Need-look-at-requires Inv-loop μ-loop
-look-at-requires c κs = let l = c .before .before .before in seek-looks _ _ _ _ _ (l .loop .inv .1) (omega arith)
+look-at-requires c κs =
+    let i = c .before .before .before .loop .inv in
+    seek-looks _ _ _ _ _ (i .1) (rw (i .0) at (c .before .if1 .taken))
 
 same-length : tie.Need-same-length Inv-loop μ-loop
 same-length c = loop-of (c .before) .loop .inv .2 .as-long
 
 returns : tie.Need-returns Inv-loop μ-loop
 returns c =
-    let l = loop-of (c .before) in
-    let i = l .loop .inv in
-    (seek-stops _ _ _ _ _ (i .1) (omega arith) (c .before .look-at .ensures) (c .if2 .taken), i .2)
+    let d = c .before in
+    let i = loop-of d .loop .inv in
+    (seek-stops _ _ _ _ _ (i .1) (test-of d) (d .look-at .ensures) (c .if2 .taken), i .2)
+
+entry : (c : tie.After-look-at Inv-loop μ-loop)
+    → let s = start-of (loop-of c) .args in
+    s .table .at + (s .table .first + loop-of c .loop .on) < length (loop-of c .loop .work)
+entry c = entry-inside (loop-of c .loop .inv .1 .filled) (test-of c)
 
 add-entry : tie.Need-add-entry Inv-loop μ-loop
-add-entry c = let f = loop-of (c .before .before) .loop .inv .1 .filled in omega (arith, f .placed)
+add-entry c = omega (arith, entry (c .before .before))
 
 mul-work : tie.Need-mul-work Inv-loop μ-loop
-mul-work c = let f = loop-of (c .before .before) .loop .inv .1 .filled in omega (arith, f .placed)
+mul-work c = omega (arith, entry (c .before .before))
 
 slice-write-work : tie.Need-slice-write-work Inv-loop μ-loop
-slice-write-work c = let f = loop-of (c .before .before) .loop .inv .1 .filled in omega (arith, f .placed)
+slice-write-work c = entry (c .before .before)
 
 loop-again : tie.Need-loop-again Inv-loop μ-loop
 loop-again c =
     let d = c .before .before in
     let i = loop-of d .loop .inv in (
       i .0,
-      seek-next _ _ _ _ _ (i .1) (omega arith) (d .look-at .ensures) (c .before .if2 .left),
-      seek-further _ _ _ _ _ (i .1) (omega arith) (d .look-at .ensures) (c .before .if2 .left) (i .2),
+      seek-next _ _ _ _ _ (i .1) (test-of d) (d .look-at .ensures) (c .before .if2 .left),
+      seek-further _ _ _ _ _ (i .1) (test-of d) (d .look-at .ensures) (c .before .if2 .left) (i .2),
     )
 
 same-length-2 : tie.Need-same-length-2 Inv-loop μ-loop
@@ -67,7 +84,7 @@ same-length-2 c = c .before .before .loop .inv .2 .as-long
 returns-2 : tie.Need-returns-2 Inv-loop μ-loop
 returns-2 c =
     let i = c .before .before .loop .inv in
-    (seek-ends _ _ _ _ _ (i .1) (omega arith), i .2)
+    (seek-ends _ _ _ _ _ (i .1) (rw (i .0) at (c .if1 .left)), i .2)
 
 pub seek-spec : {M : Type 1} → statement M
 seek-spec =
@@ -78,7 +95,7 @@ seek-spec =
     size-of-requires
     loop-holds
     add-if1
-    (λ c. omega arith)
+    add-i
     look-at-requires
     same-length
     returns

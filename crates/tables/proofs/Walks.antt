@@ -257,7 +257,7 @@ module _ (t work : List ℕ) (a : TableAt) (n : ℕ) (f : Filled t work a n) whe
             rw add-one (walk ∙ sym (after-free (table-of t a) n (rw (← walk) h))),
           )
 
-      -- It is not free: the record's letters are the same, and it takes a scan,
+      -- It is not free: the record's letters are the same, and it takes a scan.
       module _ (long : w .e - (a .first + n) ≤ len) where
         not-free : free (table-of t a) (a .first + n) w ≡ false
         not-free = free-is false (le-ltb len (w .e - (a .first + n)) long)
@@ -267,29 +267,6 @@ module _ (t work : List ℕ) (a : TableAt) (n : ℕ) (f : Filled t work a n) whe
 
         scanned-next : after (table-of t a) (n + 1) ≡ scanned (table-of t a) (a .first + n) w
         scanned-next = rw (add-one, after-scanned (table-of t a) n (rw (← walk) not-free), ← walk)
-
-        -- which looks at nothing where the record ends with the walked piece.
-        pub end-next : size (a .walked) ≤ w .e
-            → (w .e - (a .first + n) ≡ match-at (table-of t a) (a .first + n))
-            × (record { k = a .first + n; e = w .e; cost = w .cost } ≡ after (table-of t a) (n + 1))
-        unfolding scanned scan-cost
-        end-next ends =
-            let i = a .first + n in
-            let p = f .placed .pieces in
-            let is : match-at (table-of t a) i ≡ w .e - i =
-            omega (arith, known-same, asks, match-within t a p i (omega (arith, asks))) in
-            let back : i + (w .e - i) ≡ w .e = omega arith in
-            let none : w .e - i - (w .e - i) ≡ 0 = omega arith in (
-              sym is,
-              rw (
-                scanned-next,
-                is,
-                back,
-                none,
-                le-ltb (w .e) (length (table-of t a .walked)) (rw (length-walked t a p) ends),
-                add-zero (w .cost),
-              ),
-            )
 
         pub stop-there : Stopped t work a (record { n = n; known = w .e - (a .first + n); cost = w .cost })
         stop-there =
@@ -314,17 +291,19 @@ module _ (t work : List ℕ) (a : TableAt) (n : ℕ) (f : Filled t work a n) whe
           elim (decLt len (w .e - (a .first + n))) [
             | yes short ↦ let r = free-next short in (r .0, ap (λ (v : Walk). v .cost) (r .1))
             | no other ↦
-                let r = end-next (omega arith) (omega arith) in (
+                let s = stop-there (omega arith) in
+                let inside : a .first + n < size (a .walked) = omega arith in
+                let r = known-ends t work a (a .first + n) (w .e - (a .first + n)) (w .cost) (s .scannable inside) (omega arith) in (
                   omega (
                     arith,
                     asks,
-                    r .0,
+                    r .match,
                     is-own,
                     match-at-is (itself (table-of t a .pattern)) (a .first + n - w .k),
                     length-drop (a .first + n - w .k) (table-of t a .pattern),
                     length-pattern t a (f .placed .pieces),
                   ),
-                  ap (λ (v : Walk). v .cost) (r .1),
+                  ap (λ (v : Walk). v .cost) (r .walk ∙ s .scans inside),
                 )
           ]
 

@@ -59,7 +59,7 @@ pub fn find(
     }
     let cut = tables::cut_at(from, to);
     let here = find_part(text, work, report, from, to, tally);
-    // Each piece of two letters has one.
+    // Of two letters each piece has one, and no part lies in it.
     if letters == 2 {
         return here;
     }

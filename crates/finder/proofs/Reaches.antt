@@ -9,7 +9,7 @@ use Rattle.repetition.specs.Tables.{around}
 use Rattle.finder.specs.declared.reading.CutPart.{CutPart}
 use Rattle.finder.specs.declared.reading.Reach.{Reach}
 use Rattle.finder.specs.declared.reading.Class.the-variants.{Left}
-use Rattle.finder.specs.Kept.{Kept, put, put-all, block}
+use Rattle.finder.specs.Kept.{Kept, put, put-all, the-block}
 use Rattle.finder.specs.Reading.{letters, letters-u, letters-v, right-reach, left-reach, around-reach, CanReach}
 
 abbrev reached : ℕ → ℕ → ℕ → Reach
@@ -39,7 +39,7 @@ module _ (work : List ℕ) (q : CutPart) (p : ℕ) where
 -- ---- a block is put where a reach has one
 
 pub put-one : (k : Kept) (p : ℕ) (r : Reach) → p ≤ r .back + r .on
-    → put-all k (around-reach p r) ≡ put k (block p (r .place - r .back) (r .place + r .on - p))
+    → put-all k (around-reach p r) ≡ put k (the-block (record { half = p; first = r .place - r .back; last = r .place + r .on - p }))
 unfolding around
 put-one k p r l = rw (le-leb p (r .back + r .on) l)
 

@@ -7,7 +7,7 @@ use native.Mathlib.Omega.{arith}
 use lib.ListN.{length, getD}
 use Rattle.repetition.specs.Cutting.{Part}
 use Rattle.repetition.specs.Repetition.{stands}
-use Rattle.repetition.specs.Blocks.{part-blocks, list-of}
+use Rattle.repetition.specs.Blocks.{Block, part-blocks, list-of}
 use Rattle.repetition.specs.Comparisons.{comparisons}
 use Rattle.repetition.specs.Limits.{length-limit, depth, room-for}
 use Rattle.repetition.specs.Memory.{room, blocks-in}
@@ -20,7 +20,6 @@ use Rattle.finder.specs.declared.reply.Place.{Place}
 use Rattle.finder.specs.declared.reply.Freedom.{Freedom}
 use Rattle.finder.specs.declared.reply.Longest.{Longest}
 use Rattle.finder.specs.declared.reply.Room.{Room}
-use Rattle.finder.specs.Kept.{block}
 use Rattle.finder.specs.Replies.{listing-number, listing-values, place-values, freedom-values}
 use Rattle.finder.specs.Replies.{longest-values, room-number, room-values}
 use Rattle.finder.specs.Promises.{ListPromise, PlacePromise, FreePromise, LongestPromise, RoomPromise}
@@ -30,6 +29,9 @@ use Rattle.finder.proofs.Demands.{longest-meaning, room-answer}
 -- lists that are equal begin alike
 first : {x y : ℕ} {xs ys : List ℕ} → x ∷ xs ≡ y ∷ ys → x ≡ y
 first = ap (λ (vs : List ℕ). getD vs 0 0)
+
+abbrev block : ℕ → ℕ → ℕ → Block
+block half first last = record { half = half; first = first; last = last }
 
 -- the part that is all of "aaaa"
 abbrev whole : Part

@@ -11,13 +11,15 @@ use Rattle.repetition.specs.Comparisons.{part-comparisons}
 use Rattle.repetition.specs.Limits.{length-limit, numbers-per-block}
 use Rattle.repetition.specs.Memory.{numbers, room}
 use Rattle.finder.specs.declared.tally.Tally.{Tally}
+use Rattle.finder.specs.declared.tally.Block as code
 
 -- nothing found yet
 abbrev pub no-tally : Tally
 no-tally = record { blocks = 0; comparisons = 0; half = 0; start = 0 }
 
-abbrev pub block : ℕ → ℕ → ℕ → Block
-block half first last = record { half = half; first = first; last = last }
+-- the code's block, as the definitions have it
+abbrev pub the-block : code.Block → Block
+the-block b = record { half = b .half; first = b .first; last = b .last }
 
 -- a tally with so many comparisons
 abbrev pub compared : Tally → ℕ → Tally

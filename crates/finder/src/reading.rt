@@ -1,5 +1,6 @@
 // The blocks of a part, read from its match tables without a look at the text.
 use crate::tally;
+use crate::tally::Block;
 use crate::tally::Tally;
 ghost use mathlib.Core.Path.{_≡_};
 ghost use Prim.Native.Nat.{_<_, min};
@@ -110,7 +111,15 @@ fn put_around(report: &mut [u16], tally: Tally, half: usize, reach: Reach) -> Ta
     let back = reach.back;
     let on = reach.on;
     if half <= back + on {
-        return tally::put(report, tally, half, place - back, place + on - half);
+        return tally::put(
+            report,
+            tally,
+            Block {
+                half,
+                first: place - back,
+                last: place + on - half,
+            },
+        );
     }
     tally
 }

@@ -12,16 +12,17 @@ use Rattle.finder.proofs.tally.write.Statement.{statement}
 use Rattle.finder.proofs.tally.write.Tie as tie
 
 slice-write-report-2 : tie.Need-slice-write-report-2
-slice-write-report-2 c = rw length-set (omega (arith, c .if1 .taken))
+slice-write-report-2 c = rw length-set (omega (arith, c .before .before .if1 .taken))
 
 slice-write-report-3 : tie.Need-slice-write-report-3
-slice-write-report-3 c = rw (length-set, length-set) (omega (arith, c .if1 .taken))
+slice-write-report-3 c = rw (length-set, length-set) (omega (arith, c .before .before .before .if1 .taken))
 
 returns : tie.Need-returns
 unfolding with-block room
 returns c =
-    let s = c .before .args in
-    let fits = lt-ltb (s .blocks) (length (s .report .now) / numbers-per-block) (omega (arith, c .if1 .taken)) in
+    let d = c .before .before .before in
+    let s = d .before .args in
+    let fits = lt-ltb (s .blocks) (length (s .report .now) / numbers-per-block) (omega (arith, d .if1 .taken)) in
     rw (fits, add-one, add-two)
 
 returns-2 : tie.Need-returns-2

@@ -7,17 +7,15 @@ use native.Mathlib.Nat.{add-comm}
 use lib.ListN.{length}
 use Rattle.repetition.specs.Numbers.{consecutive}
 use Rattle.repetition.specs.Limits.{length-limit}
-use Rattle.repetition.specs.Blocks.{Block}
 use Rattle.repetition.proofs.Lists.{flatMap-append, consecutive-append, length-flatMap, length-consecutive, total-bound}
 use Rattle.repetition.proofs.Bounds.{around-one}
 use Rattle.finder.specs.declared.tally.Tally.{Tally}
 use Rattle.finder.specs.declared.reading.CutPart.{CutPart}
-use Rattle.finder.specs.declared.reading.Reach.{Reach}
 use Rattle.finder.specs.declared.reading.Class.{Class}
 use Rattle.finder.specs.declared.reading.Class.the-variants.{Right, Left}
 use Rattle.finder.specs.Kept.{Kept, kept, put, put-all}
-use Rattle.finder.specs.Reading.{reach-of, most-of, around-reach, read-first, read-all}
-use Rattle.finder.specs.Reading.{WellCut, CanReach, CanPutAround, CanReadAll}
+use Rattle.finder.specs.Reading.{most-of, read-half, read-first, read-all}
+use Rattle.finder.specs.Reading.{WellCut, CanPutHalf, CanReadAll}
 use Rattle.finder.proofs.Puts.{length-put-all, blocks-put-all}
 
 pub most-limit : (q : CutPart) → WellCut q → (κ : Class) → most-of q κ ≤ length-limit
@@ -29,65 +27,70 @@ module _ (work : List ℕ) (q : CutPart) (κ : Class) where
   unfolding read-first consecutive
   read-none = refl
 
-  read-next : (n : ℕ) → read-first work q κ (n + 1) ≡ read-first work q κ n ++ around-reach (n + 1) (reach-of work q κ (n + 1))
+  read-next : (n : ℕ) → read-first work q κ (n + 1) ≡ read-first work q κ n ++ read-half work q κ (n + 1)
   unfolding read-first consecutive
   read-next n = rw (consecutive-append 1 n 1, flatMap-append, one-half (1 + n)) (rw (add-comm 1 n))
     where
-      one-half : (p : ℕ)
-          → flatMap (λ p. around-reach p (reach-of work q κ p)) (consecutive p 1) ≡ around-reach p (reach-of work q κ p)
+      one-half : (p : ℕ) → flatMap (read-half work q κ) (consecutive p 1) ≡ read-half work q κ p
       one-half p = append-nil _
 
   pub read-size : (n : ℕ) → length (read-first work q κ n) ≤ n
   unfolding read-first
   read-size n =
-      let e = length-flatMap blocks-at (consecutive 1 n) in
-      let l = total-bound (λ p. length (blocks-at p)) 1 (consecutive 1 n) (λ p. around-one _ p _ _) in
+      let e = length-flatMap (read-half work q κ) (consecutive 1 n) in
+      let l = total-bound (λ p. length (read-half work q κ p)) 1 (consecutive 1 n) (λ p. around-one _ p _ _) in
       omega (arith, e, l, length-consecutive 1 n)
-    where
-      blocks-at : ℕ → List Block
-      blocks-at p = around-reach p (reach-of work q κ p)
 
   module _ (report₀ : List ℕ) (y₀ : Tally) where
-    -- the blocks of the first n halves are put
-    pub record Put (n : ℕ) (report : List ℕ) (y : Tally) : Type 0 where
-      pub most : n ≤ most-of q κ
-      pub puts : kept report y ≡ put-all (kept report₀ y₀) (read-first work q κ n)
+    -- all halves below one are put
+    pub record Put (half : ℕ) (report : List ℕ) (y : Tally) : Type 0 where
+      pub halves : ℕ
+      pub next : half ≡ halves + 1
+      pub most : halves ≤ most-of q κ
+      pub puts : kept report y ≡ put-all (kept report₀ y₀) (read-first work q κ halves)
 
-    pub put-starts : Put 0 report₀ y₀
-    put-starts = record { most = omega arith; puts = sym (ap (put-all (kept report₀ y₀)) read-none) }
+    pub put-starts : Put 1 report₀ y₀
+    put-starts = record { halves = 0; next = refl; most = omega arith; puts = sym (ap (put-all (kept report₀ y₀)) read-none) }
 
-    module _ (can : CanReadAll work q κ y₀) {n : ℕ} {report : List ℕ} {y : Tally} (so-far : Put n report y) where
+    module _ (can : CanReadAll work q κ y₀) {half : ℕ} {report : List ℕ} {y : Tally} (so-far : Put half report y) where
       pub put-length : length report ≡ length report₀
-      put-length = ap (λ (k : Kept). length (k .report)) (so-far .puts) ∙ length-put-all (kept report₀ y₀) (read-first work q κ n)
+      put-length =
+          ap (λ (k : Kept). length (k .report)) (so-far .puts)
+          ∙ length-put-all (kept report₀ y₀) (read-first work q κ (so-far .halves))
 
-      put-blocks : y .blocks ≤ y₀ .blocks + n
+      put-blocks : y .blocks ≤ y₀ .blocks + so-far .halves
       put-blocks =
-          let e = ap (λ (k : Kept). k .tally .blocks) (so-far .puts) ∙ blocks-put-all (kept report₀ y₀) (read-first work q κ n) in
-          omega (arith, e, read-size n)
+          let bs = read-first work q κ (so-far .halves) in
+          let e = ap (λ (k : Kept). k .tally .blocks) (so-far .puts) ∙ blocks-put-all (kept report₀ y₀) bs in
+          omega (arith, e, read-size (so-far .halves))
 
-      pub put-reaches : n < most-of q κ → CanReach work q κ (n + 1)
-      put-reaches l =
-          record { well-cut = can .well-cut; room = can .room; nonempty = omega arith; most = omega arith }
-
-      pub put-around : n < most-of q κ → {r : Reach} → r ≡ reach-of work q κ (n + 1) → CanPutAround y (n + 1) r
-      put-around l e =
+      pub put-half : half ≤ most-of q κ → CanPutHalf work q κ half y
+      put-half l =
           record {
-            inside = rw e (can .inside (n + 1) (omega arith) (omega arith));
-            half-fits = omega (arith, most-limit q (can .well-cut) κ);
-            counts = omega (arith, put-blocks, can .counts);
+            reaches =
+                record { well-cut = can .well-cut; room = can .room; nonempty = omega arith; most = l };
+            puts =
+                record {
+                  inside = can .inside half (omega arith) l;
+                  half-fits = omega (arith, most-limit q (can .well-cut) κ);
+                  counts = omega (arith, put-blocks, can .counts);
+                };
           }
 
-      pub put-next : n < most-of q κ → {r : Reach} {report′ : List ℕ} {y′ : Tally} → r ≡ reach-of work q κ (n + 1)
-          → kept report′ y′ ≡ put-all (kept report y) (around-reach (n + 1) r) → Put (n + 1) report′ y′
-      put-next l e f =
+      pub put-next : half ≤ most-of q κ → {report′ : List ℕ} {y′ : Tally}
+          → kept report′ y′ ≡ put-all (kept report y) (read-half work q κ half) → Put (half + 1) report′ y′
+      put-next l f =
+          let n = so-far .halves in
           record {
+            halves = n + 1;
+            next = omega arith;
             most = omega arith;
             puts =
-                f ∙ rw (e, so-far .puts, read-next n)
+                f ∙ rw (so-far .puts, so-far .next, read-next n)
                 (sym (foldl-append put (kept report₀ y₀) (read-first work q κ n) _));
           }
 
-      pub put-ends : most-of q κ ≤ n → kept report y ≡ put-all (kept report₀ y₀) (read-all work q κ)
+      pub put-ends : most-of q κ < half → kept report y ≡ put-all (kept report₀ y₀) (read-all work q κ)
       put-ends l =
           so-far .puts
-          ∙ ap (λ (m : ℕ). put-all (kept report₀ y₀) (read-first work q κ m)) {x = n} {y = most-of q κ} (omega arith)
+          ∙ ap (λ (m : ℕ). put-all (kept report₀ y₀) (read-first work q κ m)) {x = so-far .halves} {y = most-of q κ} (omega arith)

@@ -21,8 +21,8 @@ use Rattle.tables.proofs.Parts.{sizes, v-itself-entry, u-back-entry, v-back-ent
 use Rattle.finder.specs.declared.reading.CutPart.{CutPart}
 use Rattle.finder.specs.declared.reading.Class.{Class as ClassRead}
 use Rattle.finder.specs.declared.reading.Class.the-variants.{Right, Left}
-use Rattle.finder.specs.Reading.{right-reach, left-reach, reach-of, most-of, around-reach}
-use Rattle.finder.specs.Reading.{read-first, read-all, WellCut, Inside}
+use Rattle.finder.specs.Reading.{right-reach, left-reach, cut-reach, most-of}
+use Rattle.finder.specs.Reading.{read-half, read-first, read-all, WellCut, Inside}
 
 abbrev pub class-of : ClassRead → Class
 class-of Right = right
@@ -56,11 +56,11 @@ module _ (t work : List ℕ) (q : Part) (placed : PartPlaced t work q) where
       (omega (arith, sizes t work q placed))
 
   right-on : (p : ℕ) → 1 ≤ p
-      → cond (ltb p (letters-v q)) (min (p - 1) (getD tables p 0)) 0 ≡ min (p - 1) (match-at (v-itself t q) p)
+      → cond (ltb p (letters-v q)) (getD tables p 0) 0 ≡ match-at (v-itself t q) p
   right-on p one =
       elim (decLe (letters-v q) p) [
-        | yes l ↦ rw (le-ltb p (letters-v q) l, match-past p (omega (arith, sizes t work q placed))) (omega arith)
-        | no l ↦ rw (lt-ltb p (letters-v q) (omega arith), v-itself-entry t work q placed p one (omega arith)) refl
+        | yes l ↦ rw (le-ltb p (letters-v q) l, match-past p (omega (arith, sizes t work q placed)))
+        | no l ↦ rw (lt-ltb p (letters-v q) (omega arith), v-itself-entry t work q placed p one (omega arith))
       ]
 
   left-back : (p : ℕ) → 1 ≤ p → p ≤ cut-of q - q .from - 1 → getD tables (letters-v q + p) 0 ≡ match-at (u-back-itself t q) p
@@ -77,9 +77,9 @@ module _ (t work : List ℕ) (q : Part) (placed : PartPlaced t work q) where
   -- ---- each block
 
   read-is : (κ : ClassRead) (p : ℕ) → 1 ≤ p → p ≤ most-of (cut-part q) κ
-      → around-reach p (reach-of tables (cut-part q) κ p) ≡ read-block t (class-of κ) q p
+      → read-half tables (cut-part q) κ p ≡ read-block t (class-of κ) q p
   unfolding right-reach left-reach read-block
-  read-is Right p one l = ap₂ (around (cut-of q) p) (right-back p one l) (right-on p one)
+  read-is Right p one l = ap₂ (around (cut-of q) p) (right-back p one l) (ap (min (p - 1)) (right-on p one))
   read-is Left p one l =
       ap₂ (around (cut-of q - p) p) (ap (min (p - 1)) (left-back p one l)) (ap (min (p - 1)) (left-on p one l))
 
@@ -100,14 +100,14 @@ module _ (t work : List ℕ) (q : Part) (placed : PartPlaced t work q) where
   pub well-cut : WellCut (cut-part q)
   well-cut = omega (arith, placed, sizes t work q placed)
 
-  pub inside : (κ : ClassRead) (p : ℕ) → 1 ≤ p → p ≤ most-of (cut-part q) κ → Inside (reach-of tables (cut-part q) κ p)
+  pub inside : (κ : ClassRead) (p : ℕ) → 1 ≤ p → p ≤ most-of (cut-part q) κ → Inside (cut-reach tables (cut-part q) κ p)
   unfolding right-reach left-reach
   inside Right p one l =
       let z = sizes t work q placed in
       let m = match-at-is (v-back-against-u-back t q) (length (right-piece t q) - p) in
       record {
         low = omega (arith, right-back p one l, m .within-right, z);
-        high = rw (right-on p one) (omega (arith, placed, z));
+        high = omega (arith, placed, z);
       }
   inside Left p one l =
       let z = sizes t work q placed in

@@ -30,7 +30,7 @@ right-reach work q p =
     record {
       place = q .cut;
       back = getD work (letters q + (letters-v q - p)) 0;
-      on = cond (ltb p (letters-v q)) (min (p - 1) (getD work p 0)) 0;
+      on = cond (ltb p (letters-v q)) (getD work p 0) 0;
     }
 
 -- the second table from |v| on, the fourth from m + |v| on
@@ -38,13 +38,21 @@ unfoldable pub left-reach : List ℕ → CutPart → ℕ → Reach
 left-reach work q p =
     record {
       place = q .cut - p;
-      back = min (p - 1) (getD work (letters-v q + p) 0);
-      on = min (p - 1) (getD work (letters q + letters-v q + (letters-u q - p)) 0);
+      back = getD work (letters-v q + p) 0;
+      on = getD work (letters q + letters-v q + (letters-u q - p)) 0;
     }
 
 abbrev pub reach-of : List ℕ → CutPart → Class → ℕ → Reach
 reach-of work q Right p = right-reach work q p
 reach-of work q Left p = left-reach work q p
+
+-- a reach without what belongs to no repetition of the class
+abbrev pub cut-off : Class → ℕ → Reach → Reach
+cut-off Right p r = record { place = r .place; back = r .back; on = min (p - 1) (r .on) }
+cut-off Left p r = record { place = r .place; back = min (p - 1) (r .back); on = min (p - 1) (r .on) }
+
+abbrev pub cut-reach : List ℕ → CutPart → Class → ℕ → Reach
+cut-reach work q κ p = cut-off κ p (reach-of work q κ p)
 
 -- the greatest half of a class
 abbrev pub most-of : CutPart → Class → ℕ
@@ -55,10 +63,14 @@ most-of q Left = letters-u q - 1
 abbrev pub around-reach : ℕ → Reach → List Block
 around-reach p r = around (r .place) p (r .back) (r .on)
 
+-- the block of a class and half, or none
+abbrev pub read-half : List ℕ → CutPart → Class → ℕ → List Block
+read-half work q κ p = around-reach p (cut-reach work q κ p)
+
 -- the blocks of the first n halves
 unfoldable pub read-first : List ℕ → CutPart → Class → ℕ → List Block
 unfolding consecutive flatMap
-read-first work q κ n = flatMap (λ p. around-reach p (reach-of work q κ p)) (consecutive 1 n)
+read-first work q κ n = flatMap (read-half work q κ) (consecutive 1 n)
 
 -- all blocks of a class
 abbrev pub read-all : List ℕ → CutPart → Class → List Block
@@ -88,8 +100,12 @@ pub record CanPutAround (y : Tally) (p : ℕ) (r : Reach) : Type 0 where
   pub half-fits : p ≤ length-limit
   pub counts : y .blocks + 1 < 2 ^ 32
 
+pub record CanPutHalf (work : List ℕ) (q : CutPart) (κ : Class) (p : ℕ) (y : Tally) : Type 0 where
+  pub reaches : CanReach work q κ p
+  pub puts : CanPutAround y p (cut-reach work q κ p)
+
 pub record CanReadAll (work : List ℕ) (q : CutPart) (κ : Class) (y : Tally) : Type 0 where
   pub well-cut : WellCut q
   pub room : 2 * letters q ≤ length work
-  pub inside : (p : ℕ) → 1 ≤ p → p ≤ most-of q κ → Inside (reach-of work q κ p)
+  pub inside : (p : ℕ) → 1 ≤ p → p ≤ most-of q κ → Inside (cut-reach work q κ p)
   pub counts : y .blocks + most-of q κ < 2 ^ 32

@@ -3,11 +3,11 @@ use crate::tally;
 use crate::tally::Block;
 use crate::tally::Tally;
 ghost use mathlib.Core.Path.{_≡_};
-ghost use Prim.Native.Nat.{_<_, min};
+ghost use Prim.Native.Nat.{_<_, _≤_, min};
 ghost use lib.ListN.{length, getD};
 ghost use Rattle.finder.specs.Kept.{kept, put-all};
-ghost use Rattle.finder.specs.Reading.{right-reach, left-reach, reach-of, most-of, around-reach, read-all};
-ghost use Rattle.finder.specs.Reading.{WellCut, CanReach, CanPutAround, CanReadAll};
+ghost use Rattle.finder.specs.Reading.{right-reach, left-reach, reach-of, cut-off, most-of, around-reach};
+ghost use Rattle.finder.specs.Reading.{read-half, read-all, WellCut, CanReach, CanPutAround, CanPutHalf, CanReadAll};
 
 pub enum Class {
     Right,
@@ -55,7 +55,7 @@ fn right_reach(work: &[u16], part: CutPart, half: usize) -> Reach
         return Reach {
             place: cut,
             back,
-            on: smaller(half - 1, entry(work, half)),
+            on: entry(work, half),
         };
     }
     Reach {
@@ -76,8 +76,8 @@ fn left_reach(work: &[u16], part: CutPart, half: usize) -> Reach
     let fourth = part.to - part.from + second;
     Reach {
         place: cut - half,
-        back: smaller(half - 1, entry(work, second + half)),
-        on: smaller(half - 1, entry(work, fourth + (letters_u - half))),
+        back: entry(work, second + half),
+        on: entry(work, fourth + (letters_u - half)),
     }
 }
 
@@ -124,6 +124,46 @@ fn put_around(report: &mut [u16], tally: Tally, half: usize, reach: Reach) -> Ta
     tally
 }
 
+// Cuts a reach off below half, where the repetitions of a class end. A right one may start any number of letters before the cut.
+fn cut_off(reach: Reach, class: Class, half: usize) -> Reach
+    requires { ⌜ 1 ≤ half ⌝ }
+    ensures { λ r. ⌜ r ≡ cut-off class half reach ⌝ }
+{
+    let on = smaller(half - 1, reach.on);
+    match class {
+        Class::Right => Reach {
+            place: reach.place,
+            back: reach.back,
+            on,
+        },
+        Class::Left => Reach {
+            place: reach.place,
+            back: smaller(half - 1, reach.back),
+            on,
+        },
+    }
+}
+
+// Puts a part's block of one class and half, if there is one. For most halves there is none, and the uncut reach tells.
+fn put_half(
+    work: &[u16],
+    report: &mut [u16],
+    part: CutPart,
+    class: Class,
+    half: usize,
+    tally: Tally,
+) -> Tally
+    requires { ⌜ CanPutHalf (now work) part class half tally ⌝ }
+    ensures { λ r. ⌜ kept (now (report .exit)) r
+        ≡ put-all (kept (now (report .entry)) tally) (read-half (now (work .entry)) part class half) ⌝ }
+{
+    let reach = reach_of(work, part, class, half);
+    if reach.back + reach.on < half {
+        return tally;
+    }
+    put_around(report, tally, half, cut_off(reach, class, half))
+}
+
 // Puts a part's blocks of one class, by rising half.
 pub fn put_class(
     work: &[u16],
@@ -138,11 +178,10 @@ pub fn put_class(
 {
     let most = greatest_half(part, class);
     let mut all = tally;
-    let mut halves = 0;
-    while halves < most {
-        let half = halves + 1;
-        all = put_around(report, all, half, reach_of(work, part, class, half));
-        halves = half;
+    let mut half = 1;
+    while half <= most {
+        all = put_half(work, report, part, class, half, all);
+        half += 1;
     }
     all
 }

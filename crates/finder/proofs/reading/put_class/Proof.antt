@@ -1,54 +1,50 @@
--- `finder::reading::put_class` meets its contract. The loop's invariant: the blocks of the first halves are put. The measure is
+-- `finder::reading::put_class` meets its contract. The loop's invariant: the blocks of all halves before are put. The measure is
 -- the halves left. Assumes nothing.
-use Prim.Native.Nat.{_-_, _<_}
+use Prim.Native.Nat.{_+_, _-_, _≤_}
 use mathlib.Core.Path.{_≡_}
 use native.Mathlib.Omega.{arith}
 use Rattle.finder.specs.Reading.{most-of}
-use Rattle.finder.proofs.Classes.{most-limit, Put, put-starts, put-length, put-reaches, put-around, put-next, put-ends}
+use Rattle.finder.proofs.Classes.{most-limit, Put, put-starts, put-length, put-half, put-next, put-ends}
 use Rattle.finder.proofs.reading.put_class.Statement.{statement}
 use Rattle.finder.proofs.reading.put_class.Tie as tie
 
 abbrev Inv-loop : tie.InvT-loop
-Inv-loop work report₀ part class most all₀ halves₀ report all halves =
-    (most ≡ most-of part class) × Put work part class report₀ all₀ halves report all
+Inv-loop work report₀ part class most all₀ half₀ report all half =
+    (most ≡ most-of part class) × Put work part class report₀ all₀ half report all
 
 abbrev μ-loop : tie.MeasureT-loop
-μ-loop work report₀ part class most all₀ halves₀ report all halves = most - halves
+μ-loop work report₀ part class most all₀ half₀ report all half = most + 1 - half
 
 abbrev start-of : tie.At-loop Inv-loop μ-loop → tie.Start Inv-loop μ-loop
 start-of c = c .before .before .before .before
 
-below : (c : tie.In-loop Inv-loop μ-loop)
-    → let s = start-of (c .before) .args in c .before .loop .halves < most-of (s .part) (s .class)
-below c = omega (arith, c .loop-test, c .before .loop .inv .0)
+within : (c : tie.In-loop Inv-loop μ-loop)
+    → let s = start-of (c .before) .args in c .before .loop .half ≤ most-of (s .part) (s .class)
+within c = omega (arith, c .loop-test, c .before .loop .inv .0)
 
 loop-holds : tie.Need-loop-holds Inv-loop μ-loop
 loop-holds c = (c .greatest-half .ensures, put-starts _ _ _ _ _)
 
+put-half-requires : tie.Need-put-half-requires Inv-loop μ-loop
+put-half-requires c κs =
+    let l = c .before .before in
+    put-half _ _ _ _ _ (start-of l .pre) (l .loop .inv .1) (within (c .before))
+
 add-half : tie.Need-add-half Inv-loop μ-loop
 add-half c =
-    let s = start-of (c .before) in
-    omega (arith, below c, most-limit _ (s .pre .well-cut) (s .args .class))
-
-reach-of-requires : tie.Need-reach-of-requires Inv-loop μ-loop
-reach-of-requires c κs =
-    let l = c .before .before in
-    put-reaches _ _ _ _ _ (start-of l .pre) (l .loop .inv .1) (below (c .before))
-
-put-around-requires : tie.Need-put-around-requires Inv-loop μ-loop
-put-around-requires c κs =
-    let l = c .before .before .before in
-    put-around _ _ _ _ _ (start-of l .pre) (l .loop .inv .1) (below (c .before .before)) (c .reach-of .ensures)
+    let d = c .before .before .before .before in
+    let s = start-of (d .before) in
+    omega (arith, within d, most-limit _ (s .pre .well-cut) (s .args .class))
 
 loop-less : tie.Need-loop-less Inv-loop μ-loop
-loop-less c = omega (arith, c .before .before .before .before .before .loop-test)
+loop-less c = omega (arith, c .before .before .before .before .loop-test)
 
 loop-again : tie.Need-loop-again Inv-loop μ-loop
 loop-again c =
-    let l = c .before .before .before .before .before .before in (
+    let d = c .before .before .before .before in
+    let l = d .before in (
       l .loop .inv .0,
-      put-next _ _ _ _ _ (start-of l .pre) (l .loop .inv .1) (below (c .before .before .before .before .before))
-          (c .before .before .before .reach-of .ensures) (c .before .before .put-around .ensures),
+      put-next _ _ _ _ _ (start-of l .pre) (l .loop .inv .1) (within d) (c .before .before .put-half .ensures),
     )
 
 same-length : tie.Need-same-length Inv-loop μ-loop
@@ -67,9 +63,8 @@ put-class-spec =
     μ-loop
     (λ c κs. c .before .before .pre .well-cut)
     loop-holds
+    put-half-requires
     add-half
-    reach-of-requires
-    put-around-requires
     loop-less
     loop-again
     same-length

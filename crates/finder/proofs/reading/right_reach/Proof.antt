@@ -5,9 +5,7 @@ use Rattle.finder.proofs.reading.right_reach.Statement.{statement}
 use Rattle.finder.proofs.reading.right_reach.Tie as tie
 
 returns : tie.Need-returns
-returns c =
-    right-read _ _ _ (c .before .before .before .entry .ensures) (c .before .entry2 .ensures) (c .smaller .ensures)
-    (c .before .before .if1 .taken)
+returns c = right-read _ _ _ (c .before .before .entry .ensures) (c .entry2 .ensures) (c .before .if1 .taken)
 
 returns-2 : tie.Need-returns-2
 returns-2 c = right-read-last _ _ _ (c .before .entry .ensures) (c .if1 .left)
@@ -19,8 +17,6 @@ right-reach-spec =
     (λ c. search needs)
     (λ c. search needs)
     (λ c. search needs)
-    (λ c. search needs)
-    (λ c κs. search needs)
     (λ c. search needs)
     (λ c κs. search needs)
     (λ c κs. search needs)

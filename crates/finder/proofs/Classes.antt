@@ -10,7 +10,7 @@ use Rattle.repetition.specs.Limits.{length-limit}
 use Rattle.repetition.proofs.Lists.{flatMap-append, consecutive-append, length-flatMap, length-consecutive, total-bound}
 use Rattle.repetition.proofs.Bounds.{around-one}
 use Rattle.finder.specs.declared.tally.Tally.{Tally}
-use Rattle.finder.specs.declared.reading.CutPart.{CutPart}
+use Rattle.tables.specs.declared.CutPart.{CutPart}
 use Rattle.finder.specs.declared.reading.Class.{Class}
 use Rattle.finder.specs.declared.reading.Class.the-variants.{Right, Left}
 use Rattle.finder.specs.Kept.{Kept, kept, put, put-all}

@@ -29,17 +29,6 @@ module _ {A : Type 0} (f : A → Part → A) (x : A) (a b : ℕ) where
       → foldl f x (parts a b) ≡ foldl f (foldl f (f x (part a b)) (parts a (cut a b))) (parts (cut a b) b)
   over-pieces l = ap (foldl f x) (parts-unroll a b l) ∙ foldl-append f (f x (part a b)) (parts a (cut a b)) (parts (cut a b) b)
 
-  -- A part of two letters has no other part in it.
-  over-pair : b - a ≡ 2 → foldl f x (parts a b) ≡ f x (part a b)
-  over-pair two =
-      let w = cut-inside a b (omega arith) in
-      over-pieces (omega arith)
-      ∙ ap (foldl f (foldl f (f x (part a b)) (parts a (cut a b)))) (parts-small (cut a b) b (omega arith))
-      ∙ ap (foldl f (f x (part a b))) (parts-small a (cut a b) (omega arith))
-
-  pub pair-over : {y : A} → y ≡ f x (part a b) → b - a ≡ 2 → y ≡ foldl f x (parts a b)
-  pair-over e two = e ∙ sym (over-pair two)
-
 letters-pieces : (a b : ℕ) → 2 ≤ b - a → letters-in a b ≡ (b - a) + letters-in a (cut a b) + letters-in (cut a b) b
 unfolding total
 letters-pieces a b l =

@@ -7,10 +7,10 @@ use lib.ListN.{length}
 use Rattle.repetition.specs.Cutting.{Part, right, left, cut-of}
 use Rattle.repetition.specs.Blocks.{class-blocks, part-blocks}
 use Rattle.repetition.specs.Comparisons.{part-comparisons}
-use Rattle.tables.specs.Parts.{with-tables}
+use Rattle.tables.specs.Parts.{with-tables, CanFillPart}
 use Rattle.tables.proofs.Parts.{sizes, length-with-tables}
 use Rattle.finder.specs.declared.tally.Tally.{Tally}
-use Rattle.finder.specs.declared.reading.CutPart.{CutPart}
+use Rattle.tables.specs.declared.CutPart.{CutPart}
 use Rattle.finder.specs.declared.reading.Class.{Class}
 use Rattle.finder.specs.declared.reading.Class.the-variants.{Right, Left}
 use Rattle.finder.specs.Kept.{Kept, kept, compared, put, put-all, found}
@@ -30,6 +30,9 @@ room-left : (b b′ n limit from c to : ℕ) → b′ ≡ b + n → n ≤ to - c
 room-left b b′ n limit from c to more few between fits = omega (arith, between)
 
 module _ (t work : List ℕ) (q : Part) (y : Tally) (can : CanFindPart t work q y) where
+  pub can-fill : CanFillPart t work q (y .comparisons)
+  can-fill = record { placed = can .placed; fits = can .counts .comparisons-fit }
+
   -- the filled tables can be read, as long as there is room for the blocks
   reads : (κ : Class) (y′ : Tally) → y′ .blocks + most-of (cut-part q) κ < 2 ^ 32
       → CanReadAll (with-tables t q work) (cut-part q) κ y′

@@ -10,7 +10,7 @@ use lib.ListN.{getD}
 use mir.Syntax.{w16, w64}
 use mir.Val.{Fits}
 use Rattle.repetition.specs.Tables.{around}
-use Rattle.finder.specs.declared.reading.CutPart.{CutPart}
+use Rattle.tables.specs.declared.CutPart.{CutPart}
 use Rattle.finder.specs.declared.reading.Reach.{Reach}
 use Rattle.finder.specs.declared.reading.Class.{Class}
 use Rattle.finder.specs.declared.reading.Class.the-variants.{Right, Left}

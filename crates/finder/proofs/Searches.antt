@@ -18,7 +18,9 @@ use Rattle.repetition.specs.Limits.{length-limit, greatest-depth}
 use Rattle.repetition.specs.Memory.{over, written, cleared}
 use Rattle.repetition.proofs.Lists.{flatMap-member, consecutive-member}
 use Rattle.repetition.proofs.Cutting.{parts-total}
+use Rattle.tables.specs.Letters.{both-ways, text-of, BothWays}
 use Rattle.tables.specs.Parts.{letters}
+use Rattle.tables.proofs.Letters.{length-both, text-of-both}
 use Rattle.finder.specs.declared.tally.Tally.{Tally}
 use Rattle.finder.specs.declared.search.Searched.{Searched}
 use Rattle.finder.specs.declared.search.Searched.the-variants.{Found, TextTooLong, WorkTooShort}
@@ -55,7 +57,7 @@ found-after t report n bs (q ∷ qs) =
     ∙ ap₂ (kept-after report) (add-assoc n (part-comparisons t q) (total (part-comparisons t) qs))
     (append-assoc bs (part-blocks t q) (flatMap (part-blocks t) qs))
 
-pub found-text : (t report : List ℕ) {y : Tally} {k : Kept} → k ≡ found-all t (kept report y) (parts 0 (length t)) → y ≡ no-tally
+found-text : (t report : List ℕ) {y : Tally} {k : Kept} → k ≡ found-all t (kept report y) (parts 0 (length t)) → y ≡ no-tally
     → k ≡ kept-of t report
 unfolding tally-of list-of comparisons
 found-text t report e none =
@@ -66,7 +68,7 @@ found-text t report e none =
 
 -- ---- counts never wrap
 
-pub can-find : (t work : List ℕ) → CanSearch t work → CanFind t work 0 (length t) no-tally
+can-find : (t work : List ℕ) → CanSearch t work → CanFind t work 0 (length t) no-tally
 can-find t work can =
     let l = parts-total letters 1 0 (length t) greatest-depth (λ q _ _ _. omega arith) (omega (arith, can)) in
     record {
@@ -76,6 +78,24 @@ can-find t work can =
       room = omega (arith, can .room);
       counts = omega (arith, can .limit, l);
     }
+
+-- ---- the letters that are lent
+
+module _ (t : List ℕ) {s : List ℕ} (lent : s ≡ both-ways t) where
+  text-is : text-of s ≡ t
+  text-is = ap text-of lent ∙ text-of-both t
+
+  pub can-find-lent : (work : List ℕ) → CanSearch t work → {y : Tally} → y ≡ no-tally
+      → BothWays s × CanFind (text-of s) work 0 (length t) y
+  can-find-lent work can none = (lent ∙ ap both-ways (sym text-is), rw (text-is, none) (can-find t work can))
+
+  pub found-lent : (report : List ℕ) {y : Tally} {k : Kept} → k ≡ found-all (text-of s) (kept report y) (parts 0 (length t))
+      → y ≡ no-tally → k ≡ kept-of t report
+  found-lent report e none = found-text t report (rw text-is at e) none
+
+  pub letters-over : (buffer : List ℕ) → s ++ drop (2 * length t) buffer ≡ over (both-ways t) buffer
+  unfolding over
+  letters-over buffer = rw (lent, length-both t)
 
 -- ---- the three outcomes
 

@@ -1,6 +1,6 @@
 -- The blocks that are read from a part's tables are the part's blocks. Assumes nothing.
 use Prim.Native.Nat.{ℕ, _+_, _-_, _≤_, min}
-use mathlib.Core.Path.{_≡_, refl, sym, ap, ap₂, _∙_}
+use mathlib.Core.Path.{_≡_, sym, ap, ap₂, _∙_}
 use mathlib.Core.Bool.{cond}
 use mathlib.Core.List.{List, flatMap, reverse}
 use native.Mathlib.Omega.{arith}
@@ -18,7 +18,7 @@ use Rattle.repetition.proofs.Matching.{match-at-is}
 use Rattle.repetition.proofs.Reading.{class-read}
 use Rattle.tables.specs.Parts.{letters, letters-v, with-tables, PartPlaced}
 use Rattle.tables.proofs.Parts.{sizes, v-itself-entry, u-back-entry, v-back-entry, u-against-entry}
-use Rattle.finder.specs.declared.reading.CutPart.{CutPart}
+use Rattle.tables.specs.declared.CutPart.{CutPart}
 use Rattle.finder.specs.declared.reading.Class.{Class as ClassRead}
 use Rattle.finder.specs.declared.reading.Class.the-variants.{Right, Left}
 use Rattle.finder.specs.Reading.{right-reach, left-reach, cut-reach, most-of}

@@ -10,7 +10,7 @@ use Rattle.repetition.specs.Blocks.{Block}
 use Rattle.repetition.specs.Limits.{length-limit}
 use Rattle.repetition.specs.Tables.{around}
 use Rattle.finder.specs.declared.tally.Tally.{Tally}
-use Rattle.finder.specs.declared.reading.CutPart.{CutPart}
+use Rattle.tables.specs.declared.CutPart.{CutPart}
 use Rattle.finder.specs.declared.reading.Reach.{Reach}
 use Rattle.finder.specs.declared.reading.Class.{Class}
 use Rattle.finder.specs.declared.reading.Class.the-variants.{Right, Left}

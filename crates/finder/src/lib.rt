@@ -1,6 +1,7 @@
 // The finder of repetitions. Its entries ask nothing of their caller: what they can't do they refuse, and a refusal for the
 // text or the work space changes no lent memory.
 mod depth;
+mod letters;
 mod parts;
 mod place;
 mod reading;

@@ -1,34 +1,35 @@
 // The parts of a text: each is cut, its blocks are put, and then its left and its right piece are treated the same way.
 use crate::reading;
 use crate::reading::Class;
-use crate::reading::CutPart;
 use crate::tally::Tally;
+use tables::CutPart;
 ghost use mathlib.Core.Path.{_≡_};
-ghost use Rattle.tables.specs.Parts.{part, with-tables};
+ghost use Rattle.tables.specs.Letters.{text-of, BothWays};
+ghost use Rattle.tables.specs.Parts.{whole, with-tables, IsCut};
 ghost use Rattle.repetition.specs.Cutting.{parts};
 ghost use Rattle.finder.specs.Kept.{kept, found, found-all};
 ghost use Rattle.finder.specs.Finding.{tables-left, CanFindPart, CanFind};
 
+// The letters from a place up to another, which is not in it.
+pub struct Part {
+    pub from: usize,
+    pub to: usize,
+}
+
 // Finds the blocks of a part of two letters or more, and counts its comparisons.
 fn find_part(
-    text: &[u8],
+    letters: &[u16],
     work: &mut [u16],
     report: &mut [u16],
-    from: usize,
-    to: usize,
+    part: CutPart,
     tally: Tally,
 ) -> Tally
-    requires { ⌜ CanFindPart (now text) (now work) (part from to) tally ⌝ }
+    requires { ⌜ BothWays (now letters) × IsCut part × CanFindPart (text-of (now letters)) (now work) (whole part) tally ⌝ }
     ensures { λ r. ⌜ kept (now (report .exit)) r
-        ≡ found (now (text .entry)) (kept (now (report .entry)) tally) (part from to) ⌝ }
-    ensures { λ _. ⌜ now (work .exit) ≡ with-tables (now (text .entry)) (part from to) (now (work .entry)) ⌝ }
+        ≡ found (text-of (now (letters .entry))) (kept (now (report .entry)) tally) (whole part) ⌝ }
+    ensures { λ _. ⌜ now (work .exit) ≡ with-tables (text-of (now (letters .entry))) (whole part) (now (work .entry)) ⌝ }
 {
-    let count = tables::fill_tables(text, work, from, to, tally.comparisons);
-    let part = CutPart {
-        from,
-        cut: tables::cut_at(from, to),
-        to,
-    };
+    let count = tables::fill_tables(letters, work, part, tally.comparisons);
     let with_right = reading::put_class(
         &work[..],
         report,
@@ -41,28 +42,25 @@ fn find_part(
 
 // Finds the blocks of a part and of its pieces, down to one letter, and counts their comparisons.
 pub fn find(
-    text: &[u8],
+    letters: &[u16],
     work: &mut [u16],
     report: &mut [u16],
-    from: usize,
-    to: usize,
+    part: Part,
     tally: Tally,
 ) -> Tally
-    requires { ⌜ CanFind (now text) (now work) from to tally ⌝ }
+    requires { ⌜ BothWays (now letters) × CanFind (text-of (now letters)) (now work) (part .from) (part .to) tally ⌝ }
     ensures { λ r. ⌜ kept (now (report .exit)) r
-        ≡ found-all (now (text .entry)) (kept (now (report .entry)) tally) (parts from to) ⌝ }
-    ensures { λ _. ⌜ now (work .exit) ≡ tables-left (now (text .entry)) (now (work .entry)) (parts from to) ⌝ }
+        ≡ found-all (text-of (now (letters .entry))) (kept (now (report .entry)) tally) (parts (part .from) (part .to)) ⌝ }
+    ensures { λ _. ⌜ now (work .exit)
+        ≡ tables-left (text-of (now (letters .entry))) (now (work .entry)) (parts (part .from) (part .to)) ⌝ }
 {
-    let letters = to - from;
-    if letters < 2 {
+    let from = part.from;
+    let to = part.to;
+    if to - from < 2 {
         return tally;
     }
     let cut = tables::cut_at(from, to);
-    let here = find_part(text, work, report, from, to, tally);
-    // Of two letters each piece has one, and no part lies in it.
-    if letters == 2 {
-        return here;
-    }
-    let with_left = find(text, work, report, from, cut, here);
-    find(text, work, report, cut, to, with_left)
+    let here = find_part(letters, work, report, CutPart { from, cut, to }, tally);
+    let with_left = find(letters, work, report, Part { from, to: cut }, here);
+    find(letters, work, report, Part { from: cut, to }, with_left)
 }

@@ -2,6 +2,7 @@
 use crate::tally;
 use crate::tally::Block;
 use crate::tally::Tally;
+use tables::CutPart;
 ghost use mathlib.Core.Path.{_≡_};
 ghost use Prim.Native.Nat.{_<_, _≤_, min};
 ghost use lib.ListN.{length, getD};
@@ -12,13 +13,6 @@ ghost use Rattle.finder.specs.Reading.{read-half, read-all, WellCut, Can
 pub enum Class {
     Right,
     Left,
-}
-
-// A part, and where it is cut.
-pub struct CutPart {
-    pub from: usize,
-    pub cut: usize,
-    pub to: usize,
 }
 
 // How far letters agree with those a half length on: so many back from a place, and so many on from it.
@@ -42,7 +36,7 @@ fn entry(work: &[u16], at: usize) -> usize
     work[at] as usize
 }
 
-// A right repetition's reach, by the first and the third table. Of the first table v's whole length has no entry.
+// A right repetition's reach as the first and the third table have it. Of the first table v's whole length has no entry.
 fn right_reach(work: &[u16], part: CutPart, half: usize) -> Reach
     requires { ⌜ CanReach (now work) part Class.Right half ⌝ }
     ensures { λ r. ⌜ r ≡ right-reach (now (work .entry)) part half ⌝ }
@@ -65,7 +59,7 @@ fn right_reach(work: &[u16], part: CutPart, half: usize) -> Reach
     }
 }
 
-// A left repetition's reach, by the second and the fourth table.
+// A left repetition's reach as the second and the fourth table have it.
 fn left_reach(work: &[u16], part: CutPart, half: usize) -> Reach
     requires { ⌜ CanReach (now work) part Class.Left half ⌝ }
     ensures { λ r. ⌜ r ≡ left-reach (now (work .entry)) part half ⌝ }
@@ -124,7 +118,8 @@ fn put_around(report: &mut [u16], tally: Tally, half: usize, reach: Reach) -> Ta
     tally
 }
 
-// Cuts a reach off below half, where the repetitions of a class end. A right one may start any number of letters before the cut.
+// Cuts a reach off at half - 1: a right repetition ends at most 2p - 1 letters after the cut, a left one starts at most 2p - 1
+// before it and has its centre before it.
 fn cut_off(reach: Reach, class: Class, half: usize) -> Reach
     requires { ⌜ 1 ≤ half ⌝ }
     ensures { λ r. ⌜ r ≡ cut-off class half reach ⌝ }

@@ -19,7 +19,7 @@ same-place xs i j e = ap (λ (k : ℕ). getD xs k 0) e
 pub getD-slice : (t : List ℕ) (a c i : ℕ) → i < c - a → getD (slice a c t) i 0 ≡ getD t (a + i) 0
 getD-slice t a c i l = getD-drop a (take c t) i 0 ∙ getD-take c t (a + i) 0 (omega arith)
 
-getD-reverse : (xs : List ℕ) (i : ℕ) → i < length xs → getD (reverse xs) i 0 ≡ getD xs (length xs - 1 - i) 0
+pub getD-reverse : (xs : List ℕ) (i : ℕ) → i < length xs → getD (reverse xs) i 0 ≡ getD xs (length xs - 1 - i) 0
 getD-reverse [] i l = absurd (omega arith)
 getD-reverse (x ∷ xs) i l =
     rw reverse-cons (elim (decLt i (length xs)) [

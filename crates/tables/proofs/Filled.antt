@@ -2,7 +2,6 @@
 use Prim.Native.Nat.{ℕ, zero, suc, _+_, _-_, _≤_, _<_}
 use mathlib.Core.Path.{_≡_, ap, _∙_}
 use mathlib.Core.List.{List, _++_, map}
-use native.Mathlib.Nat.{add-assoc}
 use native.Mathlib.Omega.{arith}
 use lib.ListN.{length, getD, set, take, drop, length-map, List·getD-append}
 use lib.Seq.{paste, paste-zero, paste-suc, length-paste, length-paste-head, length-take-le}
@@ -58,44 +57,49 @@ getD-lengths : (m : Table) (x : ℕ) → x < length (m .walked) - m .first → g
 unfolding lengths
 getD-lengths m x l = getD-map-consecutive (match-at m) (m .first) (length (m .walked) - m .first) x l
 
--- ---- a work space with a table's first n match lengths in it
+-- ---- a work space with a table's match lengths up to position i in it
 
-module _ (m : Table) (at n : ℕ) (work : List ℕ) (reached : m .first + n ≤ length (m .walked))
-    (room : at + length (m .walked) ≤ length work) where
-  enough : n ≤ length (lengths m)
+module _ (m : Table) (at i : ℕ) (work : List ℕ) (reached : i ≤ length (m .walked))
+    (room : at + length (m .walked) ≤ length work) (walks : m .first ≤ length (m .walked)) where
+  enough : i - m .first ≤ length (lengths m)
   enough = omega (arith, length-lengths m)
 
-  fits : at + m .first + n ≤ length work
+  fits : at + m .first + (i - m .first) ≤ length work
   fits = omega arith
 
-  pub length-partly : length (partly m at n work) ≡ length work
+  pub length-partly : length (partly m at i work) ≡ length work
   unfolding partly
-  length-partly = length-paste work (at + m .first) (lengths m) n fits enough
+  length-partly = length-paste work (at + m .first) (lengths m) (i - m .first) fits enough
 
-  pub partly-entry : (i : ℕ) → m .first ≤ i → i < m .first + n → getD (partly m at n work) (at + i) 0 ≡ match-at m i
+  pub partly-entry : (x : ℕ) → m .first ≤ x → x < i → getD (partly m at i work) (at + x) 0 ≡ match-at m x
   unfolding partly
-  partly-entry i f l =
-      ap (λ (y : ℕ). getD (partly m at n work) y 0) {x = at + i} {y = at + m .first + (i - m .first)} (omega arith)
-      ∙ getD-paste-in work (at + m .first) (lengths m) n fits enough (i - m .first) (omega arith)
-      ∙ getD-lengths m (i - m .first) (omega arith)
-      ∙ ap (match-at m) {x = m .first + (i - m .first)} {y = i} (omega arith)
+  partly-entry x f l =
+      ap (λ (y : ℕ). getD (partly m at i work) y 0) {x = at + x} {y = at + m .first + (x - m .first)} (omega arith)
+      ∙ getD-paste-in work (at + m .first) (lengths m) (i - m .first) fits enough (x - m .first) (omega arith)
+      ∙ getD-lengths m (x - m .first) (omega arith)
+      ∙ ap (match-at m) {x = m .first + (x - m .first)} {y = x} (omega arith)
 
-  pub partly-before : (x : ℕ) → x < at + m .first → getD (partly m at n work) x 0 ≡ getD work x 0
+  pub partly-before : (x : ℕ) → x < at + m .first → getD (partly m at i work) x 0 ≡ getD work x 0
   unfolding partly
-  partly-before = getD-paste-before work (at + m .first) (lengths m) n fits enough
+  partly-before = getD-paste-before work (at + m .first) (lengths m) (i - m .first) fits enough
 
-pub partly-none : (m : Table) (at : ℕ) (work : List ℕ) → work ≡ partly m at 0 work
+pub partly-none : (m : Table) (at i : ℕ) (work : List ℕ) → i ≤ m .first → work ≡ partly m at i work
 unfolding partly
-partly-none m at work = paste-zero work (at + m .first) (lengths m)
+partly-none m at i work none =
+    paste-zero work (at + m .first) (lengths m)
+    ∙ ap (paste work (at + m .first) (lengths m)) {x = 0} {y = i - m .first} (omega arith)
 
--- one match length more
-pub partly-next : (m : Table) (at n : ℕ) (work : List ℕ) → m .first + n < length (m .walked)
-    → at + length (m .walked) ≤ length work
-    → set (partly m at n work) (at + (m .first + n)) (match-at m (m .first + n)) ≡ partly m at (suc n) work
+pub partly-next : (m : Table) (at i : ℕ) (work : List ℕ) → m .first ≤ i → i < length (m .walked)
+    → at + length (m .walked) ≤ length work → set (partly m at i work) (at + i) (match-at m i) ≡ partly m at (i + 1) work
 unfolding partly
-partly-next m at n work l room =
-    rw (← getD-lengths m n (omega arith), ← add-assoc at (m .first) n)
-    (paste-suc work (at + m .first) (lengths m) n 0 (omega arith) (omega (arith, length-lengths m)))
+partly-next m at i work begun l room =
+    let n = i - m .first in
+    let place : at + m .first + n ≡ at + i = omega arith in
+    let position : m .first + n ≡ i = omega arith in
+    let next : suc n ≡ i + 1 - m .first = omega arith in
+    rw (← place, ← next)
+    (rw (rw position at (getD-lengths m n (omega arith))) at
+    (paste-suc work (at + m .first) (lengths m) n 0 (omega arith) (omega (arith, length-lengths m))))
 
 -- ---- a work space with a whole table in it
 
@@ -105,17 +109,17 @@ pub record Lies (m : Table) (at : ℕ) (work : List ℕ) : Type 0 where
   pub room : at + length (m .walked) ≤ length work
 
 module _ {m : Table} {at : ℕ} {work : List ℕ} (lies : Lies m at work) where
-  whole : m .first + (length (m .walked) - m .first) ≤ length (m .walked)
-  whole = omega (arith, lies)
+  whole : length (m .walked) ≤ length (m .walked)
+  whole = omega arith
 
   pub length-with-table : length (with-table m at work) ≡ length work
   unfolding with-table
-  length-with-table = length-partly m at (length (m .walked) - m .first) work whole (lies .room)
+  length-with-table = length-partly m at (length (m .walked)) work whole (lies .room) (lies .walks)
 
   pub table-entry : (i : ℕ) → m .first ≤ i → i < length (m .walked) → getD (with-table m at work) (at + i) 0 ≡ match-at m i
   unfolding with-table
-  table-entry i f l = partly-entry m at (length (m .walked) - m .first) work whole (lies .room) i f (omega arith)
+  table-entry = partly-entry m at (length (m .walked)) work whole (lies .room) (lies .walks)
 
   pub before-table : (x : ℕ) → x < at + m .first → getD (with-table m at work) x 0 ≡ getD work x 0
   unfolding with-table
-  before-table = partly-before m at (length (m .walked) - m .first) work whole (lies .room)
+  before-table = partly-before m at (length (m .walked)) work whole (lies .room) (lies .walks)

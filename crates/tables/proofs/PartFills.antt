@@ -1,20 +1,22 @@
 -- The four tables of a part are filled one after the other: what each filling needs, and what it leaves. Assumes nothing.
 use Prim.Native.Nat.{ℕ, _+_, _-_, _*_, _≤_}
-use mathlib.Core.Path.{_≡_, refl, ap, _∙_}
-use mathlib.Core.List.{List}
+use mathlib.Core.Path.{_≡_, refl, ap, ap₂, _∙_}
+use mathlib.Core.List.{List, reverse}
 use native.Mathlib.Nat.{zero-add}
 use native.Mathlib.Omega.{arith}
 use lib.ListN.{length}
-use Rattle.repetition.specs.Cutting.{Part}
-use Rattle.repetition.specs.Tables.{v-itself, u-back-itself, v-back-against-u-back}
+use Rattle.repetition.specs.Cutting.{Part, cut-of}
+use Rattle.repetition.specs.Tables.{itself, against, left-piece, right-piece, v-itself, u-back-itself, v-back-against-u-back, u-against-v}
 use Rattle.repetition.specs.Comparisons.{table-cost, part-comparisons}
-use Rattle.repetition.proofs.Cutting.{cut-halves}
 use Rattle.repetition.proofs.Walking.{table-cost-bound}
-use Rattle.tables.specs.declared.Four.{Four}
+use Rattle.tables.specs.declared.CutPart.{CutPart}
+use Rattle.tables.specs.declared.walk.Piece.{Piece}
 use Rattle.tables.specs.declared.walk.TableAt.{TableAt}
-use Rattle.tables.specs.Pieces.{size, read}
-use Rattle.tables.specs.Walks.{table-of, with-table, this, earlier, CanFill, CanFillShort}
-use Rattle.tables.specs.Parts.{letters, letters-v, four-at, with-tables, CanFillPart}
+use Rattle.tables.specs.Letters.{both-ways, text-of, BothWays, read, backward-at}
+use Rattle.tables.specs.Walks.{itself-at, against-at, table-of, with-table, this, earlier, CanFill}
+use Rattle.tables.specs.Parts.{whole, IsCut, letters, letters-v, with-tables, CanFillPart}
+use Rattle.tables.proofs.Letters.{length-both, read-forward, read-backward}
+use Rattle.tables.proofs.Fills.{Fills, fills-same}
 use Rattle.tables.proofs.Parts.{after-1, after-2, after-3, Sizes, sizes, length-1, length-2, length-3}
 use Rattle.tables.proofs.Parts.{u-back-stands, v-stands}
 
@@ -29,105 +31,192 @@ cost-2 t q = cost-1 t q + table-cost (u-back-itself t q)
 abbrev cost-3 : List ℕ → Part → ℕ
 cost-3 t q = cost-2 t q + table-cost (v-back-against-u-back t q)
 
--- ---- each table can be filled
+-- ---- a part's pieces, and the four tables of them
 
-module _ (t work : List ℕ) (q : Part) (count : ℕ) (can : CanFillPart t work q count) where
+abbrev piece-u : Part → Piece
+piece-u q = record { from = q .from; size = cut-of q - q .from }
+
+abbrev piece-v : Part → Piece
+piece-v q = record { from = cut-of q; size = letters-v q }
+
+abbrev first-at : Part → TableAt
+first-at q = itself-at (piece-v q) 0
+
+abbrev second-at : List ℕ → Part → TableAt
+second-at s q = itself-at (backward-at (piece-u q) (length s)) (letters-v q)
+
+abbrev third-at : List ℕ → Part → TableAt
+third-at s q =
+    against-at (backward-at (piece-v q) (length s)) (backward-at (piece-u q) (length s)) (letters-v q) (letters q)
+
+abbrev fourth-at : Part → TableAt
+fourth-at q = against-at (piece-u q) (piece-v q) 0 (letters q + letters-v q)
+
+module _ (t s work : List ℕ) (q : Part) (count : ℕ) (lent : s ≡ both-ways t) (can : CanFillPart t work q count) where
   -- where the pieces lie, and what the tables cost at most
   record Bounds : Type 0 where
     sized : Sizes t work q (can .placed)
+    long : length s ≡ 2 * length t
     one : cost-1 t q ≤ 2 * letters-v q
     two : cost-2 t q ≤ 2 * letters q
     three : cost-3 t q ≤ 2 * letters q + 2 * letters-v q
 
   bounds : Bounds
   bounds =
-      let s = sizes t work q (can .placed) in
-      let one = table-cost-bound (v-itself t q) (omega (arith, s)) in
-      let two = table-cost-bound (u-back-itself t q) (omega (arith, s)) in
+      let z = sizes t work q (can .placed) in
+      let one = table-cost-bound (v-itself t q) (omega (arith, z)) in
+      let two = table-cost-bound (u-back-itself t q) (omega (arith, z)) in
       let three = table-cost-bound (v-back-against-u-back t q) (omega arith) in
-      record { sized = s; one = omega (arith, s); two = omega (arith, s); three = omega (arith, s) }
+      record {
+        sized = z;
+        long = ap length lent ∙ length-both t;
+        one = omega (arith, z);
+        two = omega (arith, z);
+        three = omega (arith, z);
+      }
 
-  can-fill-1 : CanFill t work (four-at q .first) count
+  -- ---- the four tables are the part's
+
+  reads-u : read s (piece-u q) ≡ left-piece t q
+  reads-u = rw lent (read-forward t (q .from) (cut-of q) (omega (arith, bounds)) (omega (arith, bounds, can)))
+
+  reads-v : read s (piece-v q) ≡ right-piece t q
+  reads-v = rw lent (read-forward t (cut-of q) (q .to) (omega (arith, bounds)) (can .placed .inside))
+
+  reads-u-back : read s (backward-at (piece-u q) (length s)) ≡ reverse (left-piece t q)
+  reads-u-back =
+      rw (lent, length-both t)
+      (read-backward t (q .from) (cut-of q) (omega (arith, bounds)) (omega (arith, bounds, can)))
+
+  reads-v-back : read s (backward-at (piece-v q) (length s)) ≡ reverse (right-piece t q)
+  reads-v-back =
+      rw (lent, length-both t) (read-backward t (cut-of q) (q .to) (omega (arith, bounds)) (can .placed .inside))
+
+  first-is : table-of s (first-at q) ≡ v-itself t q
+  first-is = ap itself reads-v
+
+  second-is : table-of s (second-at s q) ≡ u-back-itself t q
+  second-is = ap itself reads-u-back
+
+  third-is : table-of s (third-at s q) ≡ v-back-against-u-back t q
+  third-is = ap₂ against reads-v-back reads-u-back
+
+  fourth-is : table-of s (fourth-at q) ≡ u-against-v t q
+  fourth-is = ap₂ against reads-u reads-v
+
+  -- ---- each can be filled
+
+  can-fill-1 : CanFill s work (first-at q) count
   can-fill-1 = record { placed = omega (arith, bounds, can); own = this refl refl refl; fits = omega (arith, bounds, can) }
 
   can-fill-2 : {n : ℕ} {w : List ℕ} → (n ≡ count + cost-1 t q) × (w ≡ after-1 t q work)
-      → CanFill t w (four-at q .second) n
+      → CanFill s w (second-at s q) n
   can-fill-2 (cost, e) =
       let same = ap length e ∙ length-1 t work q (can .placed) in
       record { placed = omega (arith, bounds, can); own = this refl refl refl; fits = omega (arith, bounds, can) }
 
   can-fill-3 : {n : ℕ} {w : List ℕ} → (n ≡ count + cost-2 t q) × (w ≡ after-2 t q work)
-      → CanFill t w (four-at q .third) n
-  unfolding read
+      → CanFill s w (third-at s q) n
   can-fill-3 (cost, e) =
       let same = ap length e ∙ length-2 t work q (can .placed) in
       record {
         placed = omega (arith, bounds, can);
-        own = earlier (omega (arith, bounds)) (rw e (u-back-stands t work q (can .placed)));
+        own = earlier (omega (arith, bounds)) (rw (e, reads-u-back) (u-back-stands t work q (can .placed)));
         fits = omega (arith, bounds, can);
       }
 
   can-fill-4 : {n : ℕ} {w : List ℕ} → (n ≡ count + cost-3 t q) × (w ≡ after-3 t q work)
-      → CanFill t w (four-at q .fourth) n
-  unfolding read
+      → CanFill s w (fourth-at q) n
   can-fill-4 (cost, e) =
       let same = ap length e ∙ length-3 t work q (can .placed) in
       record {
         placed = omega (arith, bounds, can);
         own =
             earlier (omega (arith, bounds))
-            (λ x one l. rw (e, zero-add x) (v-stands t work q (can .placed) x one l));
+            (λ x one l. rw (e, reads-v, zero-add x) (v-stands t work q (can .placed) x one l));
         fits = omega (arith, bounds, can);
       }
 
--- ---- the four fillings, one after the other
+-- ---- the four fillings, one after the other, as the code lays the tables
 
--- what the filling of a table promises
-abbrev Fills : List ℕ → TableAt → ℕ → List ℕ → ℕ → List ℕ → Type 0
-Fills t a count work n w = (n ≡ count + table-cost (table-of t a)) × (w ≡ with-table (table-of t a) (a .at) work)
+-- The pieces have their letters one after the other, and lie in the letters.
+pub record Lying (s : List ℕ) (q : CutPart) : Type 0 where
+  pub u-ordered : q .from ≤ q .cut
+  pub v-ordered : q .cut ≤ q .to
+  pub inside : q .to ≤ length s
 
-module _ (t work : List ℕ) (q : Part) (count : ℕ) (can : CanFillPart t work q count) {four : Four} (e : four ≡ four-at q) where
-  pub fill-1 : CanFill t work (four .first) count
-  fill-1 = rw e (can-fill-1 t work q count can)
+abbrev code-u : CutPart → Piece
+code-u q = record { from = q .from; size = q .cut - q .from }
 
-  module _ {n₁ : ℕ} {w₁ : List ℕ} (f₁ : Fills t (four .first) count work n₁ w₁) where
-    left-1 : (n₁ ≡ count + cost-1 t q) × (w₁ ≡ after-1 t q work)
-    unfolding read
-    left-1 = rw e at f₁
+abbrev code-v : CutPart → Piece
+code-v q = record { from = q .cut; size = q .to - q .cut }
 
-    pub fill-2 : CanFill t w₁ (four .second) n₁
-    fill-2 = rw e (can-fill-2 t work q count can left-1)
+module _ (s work : List ℕ) (q : CutPart) (count : ℕ) (both : BothWays s) (cut-is : IsCut q)
+    (can : CanFillPart (text-of s) work (whole q) count) where
+  abbrev t : List ℕ
+  t = text-of s
 
-    module _ {n₂ : ℕ} {w₂ : List ℕ} (f₂ : Fills t (four .second) n₁ w₁ n₂ w₂) where
-      left-2 : (n₂ ≡ count + cost-2 t q) × (w₂ ≡ after-2 t q work)
-      unfolding read
-      left-2 = let l = left-1 in let g = rw (e, l .1) at f₂ in (omega arith, g .1)
+  pub lying : Lying s q
+  lying = omega (arith, can .placed, bounds t s work (whole q) count both can .long, sizes t work (whole q) (can .placed) .between)
 
-      pub fill-3 : CanFill t w₂ (four .third) n₂
-      fill-3 = rw e (can-fill-3 t work q count can left-2)
+  -- how many letters the part has, and where its fourth table stands
+  whole-letters : q .cut - q .from + (q .to - q .cut) ≡ letters (whole q)
+  whole-letters = omega (arith, lying)
 
-      module _ {n₃ : ℕ} {w₃ : List ℕ} (f₃ : Fills t (four .third) n₂ w₂ n₃ w₃) where
-        left-3 : (n₃ ≡ count + cost-3 t q) × (w₃ ≡ after-3 t q work)
-        unfolding read
-        left-3 = let l = left-2 in let g = rw (e, l .1) at f₃ in (omega arith, g .1)
+  module _ {u-back v-back : Piece} (u-is : u-back ≡ backward-at (code-u q) (length s))
+      (v-is : v-back ≡ backward-at (code-v q) (length s)) where
+    first-laid : itself-at (code-v q) 0 ≡ first-at (whole q)
+    first-laid = rw cut-is
 
-        pub fill-4 : CanFill t w₃ (four .fourth) n₃
-        fill-4 = rw e (can-fill-4 t work q count can left-3)
+    second-laid : itself-at u-back (q .to - q .cut) ≡ second-at s (whole q)
+    second-laid = rw (u-is, cut-is)
 
-        pub four-filled : {n₄ : ℕ} {w₄ : List ℕ} → Fills t (four .fourth) n₃ w₃ n₄ w₄
-            → (n₄ ≡ count + part-comparisons t q) × (w₄ ≡ with-tables t q work)
-        unfolding read part-comparisons with-tables
-        four-filled f₄ = let l = left-3 in let g = rw (e, l .1) at f₄ in (omega arith, g .1)
+    pub fill-1 : CanFill s work (itself-at (code-v q) 0) count
+    fill-1 = rw first-laid (can-fill-1 t s work (whole q) count both can)
 
--- ---- a small part
+    module _ {n₁ : ℕ} {w₁ : List ℕ} (f₁ : Fills s (itself-at (code-v q) 0) count work n₁ w₁) where
+      left-1 : (n₁ ≡ count + cost-1 t (whole q)) × (w₁ ≡ after-1 t (whole q) work)
+      left-1 = rw (first-is t s work (whole q) count both can) at (fills-same s count work first-laid f₁)
 
--- Both pieces of a table have at most two letters.
-abbrev Short : TableAt → Type 0
-Short a = (size (a .walked) ≤ 2) × (size (a .pattern) ≤ 2)
+      pub fill-2 : CanFill s w₁ (itself-at u-back (q .to - q .cut)) n₁
+      fill-2 = rw second-laid (can-fill-2 t s work (whole q) count both can left-1)
 
-pub shortly : {t work : List ℕ} {a : TableAt} {count : ℕ} → CanFill t work a count → Short a → CanFillShort t work a count
-shortly can short = record { fills = can; short-walked = short .0; short-pattern = short .1 }
+      module _ {n₂ : ℕ} {w₂ : List ℕ} (f₂ : Fills s (itself-at u-back (q .to - q .cut)) n₁ w₁ n₂ w₂) {a₃ : TableAt}
+          (e₃ : a₃ ≡ against-at v-back u-back (q .to - q .cut) (q .cut - q .from + (q .to - q .cut))) where
+        left-2 : (n₂ ≡ count + cost-2 t (whole q)) × (w₂ ≡ after-2 t (whole q) work)
+        left-2 =
+            let l = left-1 in
+            let g = rw (second-is t s work (whole q) count both can, l .1) at (fills-same s n₁ w₁ second-laid f₂) in
+            (omega arith, g .1)
 
-pub small : (q : Part) {four : Four} → four ≡ four-at q → letters q ≤ 4
-    → Short (four .first) × Short (four .second) × Short (four .third) × Short (four .fourth)
-small q e l = rw e (let h = cut-halves (q .from) (q .to) 2 l in omega arith)
+        third-laid : a₃ ≡ third-at s (whole q)
+        third-laid = e₃ ∙ rw (u-is, v-is, whole-letters, cut-is)
+
+        pub fill-3 : CanFill s w₂ a₃ n₂
+        fill-3 = rw third-laid (can-fill-3 t s work (whole q) count both can left-2)
+
+        module _ {n₃ : ℕ} {w₃ : List ℕ} (f₃ : Fills s a₃ n₂ w₂ n₃ w₃) {a₄ : TableAt}
+            (e₄ : a₄ ≡ against-at (code-u q) (code-v q) 0 (q .cut - q .from + (q .to - q .cut) + (q .to - q .cut))) where
+          left-3 : (n₃ ≡ count + cost-3 t (whole q)) × (w₃ ≡ after-3 t (whole q) work)
+          left-3 =
+              let l = left-2 in
+              let g = rw (third-laid, third-is t s work (whole q) count both can, l .1) at f₃ in
+              (omega arith, g .1)
+
+          fourth-laid : a₄ ≡ fourth-at (whole q)
+          fourth-laid = e₄ ∙ rw (whole-letters, cut-is)
+
+          pub fill-4 : CanFill s w₃ a₄ n₃
+          fill-4 = rw fourth-laid (can-fill-4 t s work (whole q) count both can left-3)
+
+          module _ {n₄ : ℕ} {w₄ : List ℕ} (f₄ : Fills s a₄ n₃ w₃ n₄ w₄) where
+            left-4 : (n₄ ≡ count + cost-3 t (whole q) + table-cost (u-against-v t (whole q)))
+                × (w₄ ≡ with-table (u-against-v t (whole q)) (letters (whole q) + letters-v (whole q)) (after-3 t (whole q) work))
+            left-4 =
+                let l = left-3 in
+                let g = rw (fourth-laid, fourth-is t s work (whole q) count both can, l .1) at f₄ in
+                (omega arith, g .1)
+
+            pub four-filled : (n₄ ≡ count + part-comparisons t (whole q)) × (w₄ ≡ with-tables t (whole q) work)
+            unfolding part-comparisons with-tables
+            four-filled = (omega (arith, left-4 .0), left-4 .1)

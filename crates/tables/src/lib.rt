@@ -1,17 +1,16 @@
-// The match tables of a part: the one function that looks at the text, the scan, the walk that fills a table, and here the
-// four tables of a part in the work space.
+// The match tables of a part: the one function that looks at the letters, the scan, the walk that fills a table, and here the
+// four tables of a part in the work space. The letters are a text's, and after them the same letters reversed.
 mod look;
-mod piece;
 mod walk;
 
-use crate::piece::Piece;
-use crate::walk::TableAt;
+use crate::walk::Piece;
 ghost use mathlib.Core.Path.{_≡_};
 ghost use Prim.Native.Nat.{_+_, _≤_};
 ghost use Rattle.repetition.specs.Cutting.{cut};
 ghost use Rattle.repetition.specs.Comparisons.{part-comparisons};
 ghost use Rattle.repetition.specs.Limits.{length-limit};
-ghost use Rattle.tables.specs.Parts.{part, letters, four-at, with-tables, CanFillPart};
+ghost use Rattle.tables.specs.Letters.{text-of, BothWays, backward-at};
+ghost use Rattle.tables.specs.Parts.{whole, with-tables, IsCut, CanFillPart};
 
 // Where a part is cut.
 pub fn cut_at(from: usize, to: usize) -> usize
@@ -21,69 +20,52 @@ pub fn cut_at(from: usize, to: usize) -> usize
     from + (to - from + 1) / 2
 }
 
-// The four tables of a part, and their places in the work space.
-struct Four {
-    first: TableAt,
-    second: TableAt,
-    third: TableAt,
-    fourth: TableAt,
+// A part, and where it is cut.
+pub struct CutPart {
+    pub from: usize,
+    pub cut: usize,
+    pub to: usize,
 }
 
-fn four_of(from: usize, to: usize) -> Four
-    requires { ⌜ (2 ≤ letters (part from to)) × (to ≤ length-limit) ⌝ }
-    ensures { λ r. ⌜ r ≡ four-at (part from to) ⌝ }
+// A piece of the text read backward, as it lies in letters that end at this place.
+fn backward(piece: Piece, end: usize) -> Piece
+    requires { ⌜ piece .from + piece .size ≤ end ⌝ }
+    ensures { λ r. ⌜ r ≡ backward-at piece end ⌝ }
 {
-    let cut = cut_at(from, to);
-    let u = Piece { from, to: cut };
-    let v = Piece { from: cut, to };
-    let letters = to - from;
-    let letters_v = to - cut;
-    Four {
-        first: walk::itself(v, false, 0),
-        second: walk::itself(u, true, letters_v),
-        third: walk::against(v, u, true, letters_v, letters),
-        fourth: walk::against(u, v, false, 0, letters + letters_v),
+    Piece {
+        from: end - (piece.from + piece.size),
+        size: piece.size,
     }
-}
-
-// A part of at most so many letters is small: its pieces have at most two.
-const SMALL: usize = 4;
-
-// Fills the four tables of a small part.
-fn fill_small(text: &[u8], work: &mut [u16], from: usize, to: usize, count: u32) -> u32
-    requires { ⌜ CanFillPart (now text) (now work) (part from to) count × (letters (part from to) ≤ 4) ⌝ }
-    ensures { λ r. ⌜ r ≡ count + part-comparisons (now (text .entry)) (part from to) ⌝ }
-    ensures { λ _. ⌜ now (work .exit) ≡ with-tables (now (text .entry)) (part from to) (now (work .entry)) ⌝ }
-{
-    let four = four_of(from, to);
-    let after_first = walk::fill_short(text, work, four.first, count);
-    let after_second = walk::fill_short(text, work, four.second, after_first);
-    let after_third = walk::fill_short(text, work, four.third, after_second);
-    walk::fill_short(text, work, four.fourth, after_third)
-}
-
-// Fills the four tables of any part.
-fn fill_large(text: &[u8], work: &mut [u16], from: usize, to: usize, count: u32) -> u32
-    requires { ⌜ CanFillPart (now text) (now work) (part from to) count ⌝ }
-    ensures { λ r. ⌜ r ≡ count + part-comparisons (now (text .entry)) (part from to) ⌝ }
-    ensures { λ _. ⌜ now (work .exit) ≡ with-tables (now (text .entry)) (part from to) (now (work .entry)) ⌝ }
-{
-    let four = four_of(from, to);
-    let after_first = walk::fill(text, work, four.first, count);
-    let after_second = walk::fill(text, work, four.second, after_first);
-    let after_third = walk::fill(text, work, four.third, after_second);
-    walk::fill(text, work, four.fourth, after_third)
 }
 
 // Fills the four tables of a part, in document 01's order. The count of comparisons is raised by the part's.
-pub fn fill_tables(text: &[u8], work: &mut [u16], from: usize, to: usize, count: u32) -> u32
-    requires { ⌜ CanFillPart (now text) (now work) (part from to) count ⌝ }
-    ensures { λ r. ⌜ r ≡ count + part-comparisons (now (text .entry)) (part from to) ⌝ }
-    ensures { λ _. ⌜ now (work .exit) ≡ with-tables (now (text .entry)) (part from to) (now (work .entry)) ⌝ }
+pub fn fill_tables(letters: &[u16], work: &mut [u16], part: CutPart, count: u32) -> u32
+    requires { ⌜ BothWays (now letters) × IsCut part × CanFillPart (text-of (now letters)) (now work) (whole part) count ⌝ }
+    ensures { λ r. ⌜ r ≡ count + part-comparisons (text-of (now (letters .entry))) (whole part) ⌝ }
+    ensures { λ _. ⌜ now (work .exit) ≡ with-tables (text-of (now (letters .entry))) (whole part) (now (work .entry)) ⌝ }
 {
-    if to - from <= SMALL {
-        fill_small(text, work, from, to, count)
-    } else {
-        fill_large(text, work, from, to, count)
-    }
+    let letters_u = part.cut - part.from;
+    let letters_v = part.to - part.cut;
+    let u = Piece {
+        from: part.from,
+        size: letters_u,
+    };
+    let v = Piece {
+        from: part.cut,
+        size: letters_v,
+    };
+    let end = letters.len();
+    let u_back = backward(u, end);
+    let v_back = backward(v, end);
+    let third = letters_u + letters_v;
+    let fourth = third + letters_v;
+    let after_first = walk::fill_itself(letters, work, v, 0, count);
+    let after_second = walk::fill_itself(letters, work, u_back, letters_v, after_first);
+    let after_third = walk::fill(
+        letters,
+        work,
+        walk::against(v_back, u_back, letters_v, third),
+        after_second,
+    );
+    walk::fill(letters, work, walk::against(u, v, 0, fourth), after_third)
 }

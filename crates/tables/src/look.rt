@@ -1,5 +1,4 @@
-// The one function that looks at the text, and the scan that finds a match length by it.
-use crate::piece;
+// The one function that looks at the letters, and the scan that finds a match length by it.
 ghost use mathlib.Core.Path.{_≡_};
 ghost use Prim.Native.Nat.{_+_, _<_, _^_};
 ghost use lib.ListN.{length};
@@ -11,13 +10,13 @@ pub struct Looked {
     pub count: u32,
 }
 
-// One comparison: are the bytes at two places equal?
-pub fn look(text: &[u8], i: usize, j: usize, count: u32) -> Looked
-    requires { ⌜ (i < length (now text)) × (j < length (now text)) × (count + 1 < 2 ^ 32) ⌝ }
-    ensures { λ r. ⌜ r ≡ looked (now (text .entry)) i j count ⌝ }
+// One comparison: are the letters at two places equal?
+pub fn look(letters: &[u16], i: usize, j: usize, count: u32) -> Looked
+    requires { ⌜ (i < length (now letters)) × (j < length (now letters)) × (count + 1 < 2 ^ 32) ⌝ }
+    ensures { λ r. ⌜ r ≡ looked (now (letters .entry)) i j count ⌝ }
 {
     Looked {
-        equal: text[i] == text[j],
+        equal: letters[i] == letters[j],
         count: count + 1,
     }
 }
@@ -28,19 +27,11 @@ pub struct Scanned {
     pub count: u32,
 }
 
-// How many letters are the same when reading goes on from two marks, with room for so many letters. The first
-// `known` are known to be the same and are not looked at.
-pub fn scan(
-    text: &[u8],
-    backward: bool,
-    a: usize,
-    b: usize,
-    room: usize,
-    known: usize,
-    count: u32,
-) -> Scanned
-    requires { ⌜ CanScan (now text) backward a b room known count ⌝ }
-    ensures { λ r. ⌜ r ≡ scan-of (now (text .entry)) backward a b room known count ⌝ }
+// How many letters are the same from two places on, with room for so many letters. The first `known` are known to be the
+// same and are not looked at.
+pub fn scan(letters: &[u16], a: usize, b: usize, room: usize, known: usize, count: u32) -> Scanned
+    requires { ⌜ CanScan (now letters) a b room known count ⌝ }
+    ensures { λ r. ⌜ r ≡ scan-of (now (letters .entry)) a b room known count ⌝ }
 {
     let mut looks = count;
     let mut on = known;
@@ -48,12 +39,7 @@ pub fn scan(
         if room <= on {
             break on;
         }
-        let seen = look(
-            text,
-            piece::letter_at(backward, a, on),
-            piece::letter_at(backward, b, on),
-            looks,
-        );
+        let seen = look(letters, a + on, b + on, looks);
         looks = seen.count;
         if !seen.equal {
             break on;

@@ -6,9 +6,10 @@ use borrow.Fn.Kinds.{In}
 use borrow.Fn.PlainCycle.{Measures, is, falls, and}
 use lib.ListN.{length}
 use Rattle.repetition.specs.Cutting.{parts}
+use Rattle.tables.specs.Letters.{text-of}
 use Rattle.finder.specs.Kept.{kept, found-all}
 use Rattle.finder.specs.Finding.{tables-left}
-use Rattle.finder.proofs.Finds.{none-over, pair-over, length-left, report-kept, can-part, can-left, can-right}
+use Rattle.finder.proofs.Finds.{none-over, length-left, report-kept, can-part, can-left, can-right}
 use Rattle.finder.proofs.Finds.{all-found, all-tables, pieces-fall}
 use Rattle.finder.proofs.parts.find.Reads as find
 use Rattle.finder.proofs.parts.find.Kinds as find-kinds
@@ -19,7 +20,7 @@ use Rattle.finder.proofs.parts.+find.{statement}
 use Rattle.finder.proofs.parts.+find.Tie.{close}
 
 abbrev μ-find : Measures 3 find-kinds.ps ℕ
-μ-find κs a = a .1 .1 .1 .1 .0 - a .1 .1 .1 .0
+μ-find κs a = a .1 .1 .1 .0 .to - a .1 .1 .1 .0 .from
 
 -- what `find` is given at the measure m, and what a call of it asks below m
 abbrev find-at : ℕ → In 3 find-kinds.ps
@@ -50,9 +51,6 @@ module _ (m : ℕ) where
   abbrev Here : Type 0
   Here = find-lts.After-find-part calls (find-at m) find.Post
 
-  abbrev Pair : Type 0
-  Pair = find-lts.Then2 calls (find-at m) find.Post
-
   abbrev Left : Type 0
   Left = find-lts.After-find calls (find-at m) find.Post
 
@@ -65,58 +63,40 @@ module _ (m : ℕ) where
   abbrev cut-of : Here → Cut
   cut-of c = c .before .before .before
 
-  abbrev pair-of : Pair → Here
-  pair-of c = c .before .before .before .before .before
-
   abbrev here-of : Left → Here
-  here-of c = c .before .before .before .before .before .before .before .before
+  here-of c = c .before .before .before .before .before .before .before
 
   abbrev left-of : Right → Left
   left-of c = c .before .before .before .before .before .before .before
 
-  sub-letters : find-lts.Need-sub-letters calls (find-at m) find.Post
-  sub-letters c = c .before .before .before .pre .1 .ordered
+  sub-if1 : find-lts.Need-sub-if1 calls (find-at m) find.Post
+  sub-if1 c = c .before .before .before .pre .1 .1 .ordered
 
   returns : find-lts.Need-returns calls (find-at m) find.Post
   returns c = (sym (none-over _ _ _ _ (c .if1 .taken)), sym (none-over _ _ _ _ (c .if1 .taken)))
 
   cut-at-requires : find-lts.Need-cut-at-requires calls (find-at m) find.Post
   cut-at-requires c κs =
-      let can = c .before .before .before .before .pre .1 in
+      let can = c .before .before .before .before .pre .1 .1 in
       (can .ordered, omega (arith, can .inside, can .limit))
 
   find-part-requires : find-lts.Need-find-part-requires calls (find-at m) find.Post
-  find-part-requires c κs = can-part _ _ _ _ _ (start-of (c .before .before) .pre .1) (c .before .before .before .if1 .left)
-
-  -- a part of two letters
-  pair : (c : Pair)
-      → let s = start-of (cut-of (pair-of c)) .args in
-      let here = pair-of c .find-part in
-      (kept (here .last .1 .1 .0) (here .result) ≡ found-all (s .text .now) (kept (s .report .now) (s .tally)) (parts (s .from) (s .to)))
-      × (here .last .1 .0 ≡ tables-left (s .text .now) (s .work .now) (parts (s .from) (s .to)))
-  pair c =
-      let e = pair-of c .find-part .ensures in
-      (pair-over _ _ _ _ (e .0) (c .if2 .taken), pair-over _ _ _ _ (e .1) (c .if2 .taken))
-
-  same-length : find-lts.Need-same-length calls (find-at m) find.Post
-  same-length c = ap length (pair c .1) ∙ length-left _ _ _ _ _ (start-of (cut-of (pair-of c)) .pre .1)
-
-  same-length-2 : find-lts.Need-same-length-2 calls (find-at m) find.Post
-  same-length-2 c =
-      let s = start-of (cut-of (pair-of c)) .args in
-      report-kept (s .text .now) (parts (s .from) (s .to)) (s .report .now) _ (s .tally) _ (pair c .0)
-
-  returns-2 : find-lts.Need-returns-2 calls (find-at m) find.Post
-  returns-2 c = pair c
+  find-part-requires c κs =
+      let cut = c .before .before in
+      let s = start-of cut in
+      (s .pre .1 .0, cut .cut-at .ensures, can-part _ _ _ _ _ (s .pre .1 .1) (cut .before .if1 .left))
 
   find-requires : find-lts.Need-find-requires calls (find-at m) find.Post
   find-requires c κs =
-      let here = c .before .before .before .before .before .before .before in
+      let here = c .before .before .before .before .before .before in
       let cut = cut-of here in
       let s = start-of cut in (
         rw (s .pre .0) at (pieces-fall _ _ (cut .cut-at .ensures) (cut .before .if1 .left) .0),
-        can-left _ _ _ _ _ (s .pre .1) (cut .before .if1 .left) _ (cut .cut-at .ensures) (here .find-part .ensures .1)
-            (here .find-part .ensures .0),
+        (
+          s .pre .1 .0,
+          can-left _ _ _ _ _ (s .pre .1 .1) (cut .before .if1 .left) _ (cut .cut-at .ensures) (here .find-part .ensures .1)
+              (here .find-part .ensures .0),
+        ),
       )
 
   find-requires-2 : find-lts.Need-find-requires-2 calls (find-at m) find.Post
@@ -126,55 +106,57 @@ module _ (m : ℕ) where
       let cut = cut-of here in
       let s = start-of cut in (
         rw (s .pre .0) at (pieces-fall _ _ (cut .cut-at .ensures) (cut .before .if1 .left) .1),
-        can-right _ _ _ _ _ (s .pre .1) (cut .before .if1 .left) _ (cut .cut-at .ensures) (here .find-part .ensures .1)
-            (here .find-part .ensures .0) (left .find .ensures .1) (left .find .ensures .0),
+        (
+          s .pre .1 .0,
+          can-right _ _ _ _ _ (s .pre .1 .1) (cut .before .if1 .left) _ (cut .cut-at .ensures) (here .find-part .ensures .1)
+              (here .find-part .ensures .0) (left .find .ensures .1) (left .find .ensures .0),
+        ),
       )
 
   whole : (c : Right)
       → let s = start-of (cut-of (here-of (left-of c))) .args in
-      (kept (c .find2 .last .1 .1 .0) (c .find2 .result)
-      ≡ found-all (s .text .now) (kept (s .report .now) (s .tally)) (parts (s .from) (s .to)))
-      × (c .find2 .last .1 .0 ≡ tables-left (s .text .now) (s .work .now) (parts (s .from) (s .to)))
+      let t = text-of (s .letters .now) in
+      let qs = parts (s .part .from) (s .part .to) in
+      (kept (c .find2 .last .1 .1 .0) (c .find2 .result) ≡ found-all t (kept (s .report .now) (s .tally)) qs)
+      × (c .find2 .last .1 .0 ≡ tables-left t (s .work .now) qs)
   whole c =
       let left = left-of c in
       let here = here-of left in
       let cut = cut-of here in
       let s = start-of cut in (
-        all-found _ _ _ _ _ (s .pre .1) (cut .before .if1 .left) _ (cut .cut-at .ensures) (here .find-part .ensures .1)
+        all-found _ _ _ _ _ (s .pre .1 .1) (cut .before .if1 .left) _ (cut .cut-at .ensures) (here .find-part .ensures .1)
             (here .find-part .ensures .0) (left .find .ensures .1) (left .find .ensures .0) (c .find2 .ensures .0),
-        all-tables _ _ _ _ _ (s .pre .1) (cut .before .if1 .left) _ (cut .cut-at .ensures) (here .find-part .ensures .1)
+        all-tables _ _ _ _ _ (s .pre .1 .1) (cut .before .if1 .left) _ (cut .cut-at .ensures) (here .find-part .ensures .1)
             (here .find-part .ensures .0) (left .find .ensures .1) (left .find .ensures .0) (c .find2 .ensures .1),
       )
 
-  same-length-3 : find-lts.Need-same-length-3 calls (find-at m) find.Post
-  same-length-3 c =
+  same-length : find-lts.Need-same-length calls (find-at m) find.Post
+  same-length c =
       let right = c .before .before .before .before in
       let s = start-of (cut-of (here-of (left-of right))) in
-      ap length (whole right .1) ∙ length-left _ _ _ _ _ (s .pre .1)
+      ap length (whole right .1) ∙ length-left _ _ _ _ _ (s .pre .1 .1)
 
-  same-length-4 : find-lts.Need-same-length-4 calls (find-at m) find.Post
-  same-length-4 c =
+  same-length-2 : find-lts.Need-same-length-2 calls (find-at m) find.Post
+  same-length-2 c =
       let right = c .before .before .before .before in
       let s = start-of (cut-of (here-of (left-of right))) .args in
-      report-kept (s .text .now) (parts (s .from) (s .to)) (s .report .now) _ (s .tally) _ (whole right .0)
+      report-kept (text-of (s .letters .now)) (parts (s .part .from) (s .part .to)) (s .report .now) _ (s .tally) _
+      (whole right .0)
 
-  returns-3 : find-lts.Need-returns-3 calls (find-at m) find.Post
-  returns-3 c = whole (c .before .before .before .before)
+  returns-2 : find-lts.Need-returns-2 calls (find-at m) find.Post
+  returns-2 c = whole (c .before .before .before .before)
 
 pub +find-spec : {M : Type 1} → statement M
 +find-spec =
     close μ-find
     (λ m.
     find-lts.spec (calls m) (find-at m) find.Post
-    (sub-letters m)
+    (sub-if1 m)
     (returns m)
     (cut-at-requires m)
     (find-part-requires m)
-    (same-length m)
-    (same-length-2 m)
-    (returns-2 m)
     (find-requires m)
     (find-requires-2 m)
-    (same-length-3 m)
-    (same-length-4 m)
-    (returns-3 m))
+    (same-length m)
+    (same-length-2 m)
+    (returns-2 m))

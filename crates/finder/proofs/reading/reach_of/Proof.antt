@@ -3,7 +3,7 @@ use Prim.Native.Nat.{ℕ}
 use mathlib.Core.Path.{subst}
 use mathlib.Core.List.{List}
 use borrow.Author.Needs.{needs}
-use Rattle.finder.specs.declared.reading.CutPart.{CutPart}
+use Rattle.tables.specs.declared.CutPart.{CutPart}
 use Rattle.finder.specs.declared.reading.Class.{Class}
 use Rattle.finder.specs.Reading.{CanReach}
 use Rattle.finder.proofs.reading.reach_of.Statement.{statement}

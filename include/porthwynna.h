@@ -17,6 +17,7 @@ extern "C" {
    - Each pointer is good for its length, which counts elements and not bytes, and aligned for its type: a text for reading, a
      lent buffer (work, report, answer) for reading and writing. Where the length is 0 the pointer may be anything, NULL too.
    - A lent buffer overlaps neither another one nor the text.
+   - A thread that calls porthwynna_list, porthwynna_is_free or porthwynna_longest has 72 KB of stack left; the others take little.
    Nothing else need be checked beforehand. No text is ever written. There is no state and nothing is allocated: several threads
    may call at the same time, each with buffers of its own, on the same text too. */
 

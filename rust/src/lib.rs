@@ -2,7 +2,8 @@
 //!
 //! A repetition has a start s and a half length p: the p bytes from s on stand again right behind
 //! themselves. [`list`] and its neighbours work in the memory that their caller lends and allocate
-//! nothing; [`find`] allocates what it needs.
+//! nothing; [`find`] allocates what it needs. Each takes some 72 KB of stack, but for the place test
+//! and the room question.
 //!
 //! The list holds each repetition of the text once, in [`Block`]s. Its order follows the way the
 //! text is cut: first what crosses the cut in the middle, with its centre at the cut or after it,

@@ -8,7 +8,7 @@ use lib.ListN.{length, getD, drop, length-append, length-reverse}
 use lib.Seq.{slice, length-slice, take-append-le, take-append-seam, getD-append-add, ext-getD}
 use Rattle.repetition.proofs.Agreement.{getD-slice, getD-slice-back, getD-reverse}
 use Rattle.tables.specs.declared.walk.Piece.{Piece}
-use Rattle.tables.specs.Letters.{both-ways, text-of, BothWays, read, backward-at}
+use Rattle.tables.specs.Letters.{both-ways, text-of, read, backward-at}
 
 pub length-read : (s : List ℕ) (p : Piece) → p .from + p .size ≤ length s → length (read s p) ≡ p .size
 unfolding read
@@ -32,9 +32,6 @@ module _ (t : List ℕ) where
   text-of-both =
       let half : length (t ++ reverse t) / 2 ≡ length t = omega (arith, length-append t (reverse t), length-reverse t) in
       rw (half, take-append-seam t (reverse t))
-
-  pub is-both : BothWays (both-ways t)
-  is-both = ap both-ways (sym text-of-both)
 
   -- a piece of the text
   pub read-forward : (a c : ℕ) → a ≤ c → c ≤ length t → read (both-ways t) (record { from = a; size = c - a }) ≡ slice a c t

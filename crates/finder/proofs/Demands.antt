@@ -3,11 +3,11 @@ use Prim.Native.Nat.{ℕ, suc, _+_, _*_, _≤_, _<_}
 use mathlib.Core.Path.{_≡_, refl, sym, ap, _∙_}
 use mathlib.Core.Logic.{_↔_, _⊎_, inl, inr, ⊎-elim}
 use mathlib.Core.Bool.{Bool, true, false, cond, true≢false}
-use mathlib.Core.List.{List, [], _∷_, List·Memᴰ, nil≢cons}
+use mathlib.Core.List.{List, [], _∷_, List·Memᴰ, Memᴰ·append-left, nil≢cons}
 use native.Mathlib.Decide.{decLe, decLt}
 use native.Mathlib.Omega.{arith}
 use lib.Dec.{leb}
-use lib.ListN.{length, take, drop}
+use lib.ListN.{length, take, drop, take-append-drop}
 use borrow.Author.Tests.{le-leb, lt-leb}
 use Rattle.repetition.specs.Numbers.{one-if}
 use Rattle.repetition.specs.Repetition.{Repetition, stands}
@@ -21,7 +21,7 @@ use Rattle.repetition.proofs.Lists.{OnePlace}
 use Rattle.repetition.proofs.Repetitions.{stands-true, true-stands}
 use Rattle.repetition.proofs.Listing.{in-block, listed-repetition, empty-list, free-text}
 use Rattle.repetition.proofs.Bounds.{comparisons-bound, blocks-bound}
-use Rattle.repetition.proofs.Longest.{longest-is, longest-there}
+use Rattle.repetition.proofs.Longest.{IsLongest, longest-is, longest-there}
 use Rattle.repetition.proofs.Reports.{fitting, leading-read, beyond-kept, list-read}
 use Rattle.finder.specs.declared.reply.Listing.{Listing}
 use Rattle.finder.specs.declared.reply.Place.{Place}
@@ -29,11 +29,11 @@ use Rattle.finder.specs.declared.reply.Freedom.{Freedom}
 use Rattle.finder.specs.declared.reply.Longest.{Longest}
 use Rattle.finder.specs.declared.reply.Room.{Room}
 use Rattle.finder.specs.Replies.{reply, listing-number, listing-values, place-number, place-values}
-use Rattle.finder.specs.Replies.{freedom-number, freedom-values, longest-number, longest-values, room-values}
+use Rattle.finder.specs.Replies.{freedom-number, freedom-values, longest-number, longest-values, room-number, room-values}
 use Rattle.finder.specs.Promises.{ListPromise, PlacePromise, FreePromise, LongestPromise, RoomPromise}
 use Rattle.finder.proofs.Refusals.{refused-1, refused-2, not-refused, listing-refused, listing-taken}
 use Rattle.finder.proofs.Refusals.{asked-refused, asked-taken, NoPlace, place-refused, place-none, place-taken}
-use Rattle.finder.proofs.Refusals.{room-taken}
+use Rattle.finder.proofs.Refusals.{room-refused, room-taken}
 
 same-number : {x y : Reply} → x ≡ y → x .number ≡ y .number
 same-number = ap (λ (x : Reply). x .number)
@@ -43,8 +43,37 @@ same-values = ap (λ (x : Reply). x .values)
 
 -- ---- the room question
 
-pub room-answer : (n : ℕ) (a : Room) → n ≤ length-limit → RoomPromise n a → room-values a ≡ room-for n ∷ []
-room-answer n a l q = same-values (q .replies ∙ room-taken n l)
+module _ (n : ℕ) (r : Room) where
+  -- Every length over the limit is refused, and every other gets n times D.
+  pub record RoomMeaning : Type 0 where
+    pub too-long : (room-number r ≡ 1) ↔ (length-limit < n)
+    pub answered : (room-number r ≡ 0) ↔ (n ≤ length-limit)
+    pub answer : n ≤ length-limit → room-values r ≡ n * depth n ∷ []
+    pub nothing : length-limit < n → room-values r ≡ []
+
+  module _ (promise : RoomPromise n r) where
+    room-short : n ≤ length-limit → reply (room-number r) (room-values r) ≡ reply 0 (n * depth n ∷ [])
+    unfolding room-for
+    room-short l = promise .replies ∙ room-taken n l
+
+    room-long : length-limit < n → reply (room-number r) (room-values r) ≡ refused 1
+    room-long l = promise .replies ∙ room-refused n l
+
+    room-numbers : ((room-number r ≡ 1) ↔ (length-limit < n)) × ((room-number r ≡ 0) ↔ (n ≤ length-limit))
+    room-numbers =
+        elim (decLe n length-limit) [
+          | yes l ↦ omega (arith, same-number (room-short l))
+          | no l ↦ omega (arith, same-number (room-long (omega arith)))
+        ]
+
+    pub room-meaning : RoomMeaning
+    room-meaning =
+        record {
+          too-long = room-numbers .0;
+          answered = room-numbers .1;
+          answer = λ l. same-values (room-short l);
+          nothing = λ l. same-values (room-long l);
+        }
 
 -- number of blocks and comparisons of the full list
 abbrev pub totals : List ℕ → List ℕ
@@ -54,13 +83,13 @@ totals t = length (list-of t) ∷ comparisons t ∷ []
 abbrev pub reported : List ℕ → List ℕ → List Block
 reported t report-left = blocks-in (length (list-of t)) report-left
 
-module _ (t work report : List ℕ) (r : Listing) (report-left work-left : List ℕ) where
+module _ (t work report : List ℕ) (r : Listing) (work-left report-left : List ℕ) where
   -- number and values of the reply, and what is left, are those of an outcome
   record Is (o : Listed) : Type 0 where
     number : listing-number r ≡ o .reply .number
     values : listing-values r ≡ o .reply .values
-    report-is : report-left ≡ o .report
     work-is : work-left ≡ o .work
+    report-is : report-left ≡ o .report
 
   -- ---- demand 1: a text is refused on these grounds alone
 
@@ -71,19 +100,20 @@ module _ (t work report : List ℕ) (r : Listing) (report-left work-left : List 
         ↔ ((length t ≤ length-limit) × (2 * length t ≤ length work) × (room report < length (list-of t)))
     pub finished : (listing-number r ≡ 0)
         ↔ ((length t ≤ length-limit) × (2 * length t ≤ length work) × (length (list-of t) ≤ room report))
-    pub one-of-these : listing-number r ≤ 3
 
-  -- the report holds the leading blocks that fit, and is as before beyond them
+  -- The report holds the leading blocks that fit, each start and half in them is a repetition, and beyond them it is as before.
   pub record Leading : Type 0 where
-    pub blocks : blocks-in (room report) report-left ≡ take (room report) (list-of t)
-    pub beyond : drop (numbers-per-block * room report) report-left ≡ drop (numbers-per-block * room report) report
     pub values : listing-values r ≡ totals t
     pub work-cleared : work-left ≡ cleared (length t) work
+    pub blocks : blocks-in (room report) report-left ≡ take (room report) (list-of t)
+    pub repetitions : (s p : ℕ) (b : Block) → List·Memᴰ b (blocks-in (room report) report-left) → has s p b ≡ true
+        → Repetition t s p
+    pub beyond : drop (numbers-per-block * room report) report-left ≡ drop (numbers-per-block * room report) report
 
   pub record Demand-1 : Type 0 where
     pub grounds : Grounds
     pub unchanged : (listing-number r ≡ 1) ⊎ (listing-number r ≡ 2)
-        → (report-left ≡ report) × (work-left ≡ work) × (listing-values r ≡ [])
+        → (listing-values r ≡ []) × (work-left ≡ work) × (report-left ≡ report)
     pub leading : listing-number r ≡ 3 → Leading
 
   -- ---- demand 2: a finished list is the list, and has each repetition once and nothing else
@@ -106,24 +136,24 @@ module _ (t work report : List ℕ) (r : Listing) (report-left work-left : List 
     pub room-enough : (a : Room) (m : ℕ) → RoomPromise (length t) a → room-values a ≡ m ∷ [] → m ≤ room report
         → listing-number r ≡ 0
 
-  module _ (promise : ListPromise t work report r report-left work-left) where
+  module _ (promise : ListPromise t work report r work-left report-left) where
     is-listing : Is (listing t work report)
     is-listing =
         record {
           number = same-number (promise .replies);
           values = same-values (promise .replies);
-          report-is = promise .leaves-report;
           work-is = promise .leaves-work;
+          report-is = promise .leaves-report;
         }
 
-    is-refused : (k : ℕ) → refusal t work ≡ suc k → Is (record { reply = refused (suc k); report = report; work = work })
+    is-refused : (k : ℕ) → refusal t work ≡ suc k → Is (record { reply = refused (suc k); work = work; report = report })
     is-refused k e = rw (listing-refused t work report k e) at is-listing
 
     is-listed : length t ≤ length-limit → 2 * length t ≤ length work
         → Is (record {
           reply = record { number = cond (leb (length (list-of t)) (room report)) 0 3; values = totals t };
-          report = written (list-of t) report;
           work = cleared (length t) work;
+          report = written (list-of t) report;
         })
     unfolding listed
     is-listed l m = rw (listing-taken t work report (not-refused t work l m)) at is-listing
@@ -142,8 +172,8 @@ module _ (t work report : List ℕ) (r : Listing) (report-left work-left : List 
           ]
         ]
 
-    kept : (k : ℕ) → refusal t work ≡ suc k → (report-left ≡ report) × (work-left ≡ work) × (listing-values r ≡ [])
-    kept k e = let i = is-refused k e in (i .report-is, i .work-is, i .values)
+    kept : (k : ℕ) → refusal t work ≡ suc k → (listing-values r ≡ []) × (work-left ≡ work) × (report-left ≡ report)
+    kept k e = let i = is-refused k e in (i .values, i .work-is, i .report-is)
 
     pub demand-1 : Demand-1
     demand-1 =
@@ -157,11 +187,16 @@ module _ (t work report : List ℕ) (r : Listing) (report-left work-left : List 
               let f = g .full .0 e in
               let i = is-listed (f .0) (f .1) in
               let all : fitting (list-of t) report ≡ room report = omega arith in
+              let same : blocks-in (room report) report-left ≡ take (room report) (list-of t) =
+              rw (i .report-is) (rw all at (leading-read (list-of t) report)) in
               record {
-                blocks = rw (i .report-is) (rw all at (leading-read (list-of t) report));
-                beyond = rw (i .report-is) (rw all at (beyond-kept (list-of t) report));
                 values = i .values;
                 work-cleared = i .work-is;
+                blocks = same;
+                repetitions = λ s p b m.
+                    listed-repetition t s p b
+                    (rw take-append-drop at (Memᴰ·append-left (drop (room report) (list-of t)) (rw same at m)));
+                beyond = rw (i .report-is) (rw all at (beyond-kept (list-of t) report));
               };
         }
 
@@ -189,7 +224,7 @@ module _ (t work report : List ℕ) (r : Listing) (report-left work-left : List 
           comparisons-bounded = comparisons-bound t l;
           blocks-bounded = blocks-bound t l;
           room-enough = λ a k q e fits.
-              let same : k ≡ room-for (length t) = cc (room-answer (length t) a l q) in
+              let same : k ≡ length t * depth (length t) = cc (room-meaning (length t) a q .answer l) in
               grounds .finished .1 (omega (arith, blocks-bound t l));
         }
 
@@ -296,8 +331,7 @@ module _ (t work : List ℕ) where
   pub record LongestMeaning (r : Longest) : Type 0 where
     pub grounds : Asking t work (longest-number r)
     pub none : longest-number r ≡ 0 → (longest-values r ≡ []) ↔ ((s p : ℕ) → Repetition t s p → ⊥)
-    pub found : longest-number r ≡ 0 → (s p : ℕ) → longest-values r ≡ s ∷ p ∷ []
-        → Repetition t s p × ((s′ p′ : ℕ) → Repetition t s′ p′ → p′ ≤ p)
+    pub found : longest-number r ≡ 0 → (s p : ℕ) → longest-values r ≡ s ∷ p ∷ [] → IsLongest t s p
 
   pub longest-meaning : {r : Longest} {work-left : List ℕ} → LongestPromise t work r work-left → LongestMeaning r
   unfolding longest

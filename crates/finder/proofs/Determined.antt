@@ -1,14 +1,11 @@
--- Every public function's outcome is determined by its promise: any two outcomes that meet it are equal. Assumes nothing.
-use Prim.Native.Nat.{ℕ, zero, suc, _+_}
+-- Every entry's outcome is determined by its promise: any two outcomes that meet it are equal. Assumes nothing.
+use Prim.Native.Nat.{ℕ, zero, suc}
 use mathlib.Core.Path.{_≡_, refl, sym, ap, _∙_}
 use mathlib.Core.Bool.{cond}
 use mathlib.Core.List.{List, [], _∷_}
 use lib.Dec.{eqb}
 use lib.ListN.{getD}
-use Rattle.repetition.specs.Cutting.{Part, cut}
-use Rattle.repetition.specs.Comparisons.{part-comparisons}
 use Rattle.repetition.specs.Outcomes.{Reply}
-use Rattle.tables.specs.Parts.{with-tables}
 use Rattle.finder.specs.declared.reply.Totals.{Totals}
 use Rattle.finder.specs.declared.reply.Listing.{Listing}
 use Rattle.finder.specs.declared.reply.Listing.the-variants as listing
@@ -92,11 +89,11 @@ room-again : (r : Room) → room-from (room-number r) (room-values r) ≡ r
 room-again (room.Blocks n) = refl
 room-again room.TextTooLong = refl
 
--- ---- the finder
+-- ---- the entries
 
-pub one-list : {t work report report-left report-left′ work-left work-left′ : List ℕ} {r r′ : Listing}
-    → ListPromise t work report r report-left work-left → ListPromise t work report r′ report-left′ work-left′
-    → (r ≡ r′) × (report-left ≡ report-left′) × (work-left ≡ work-left′)
+pub one-list : {t work report work-left work-left′ report-left report-left′ : List ℕ} {r r′ : Listing}
+    → ListPromise t work report r work-left report-left → ListPromise t work report r′ work-left′ report-left′
+    → (r ≡ r′) × (work-left ≡ work-left′) × (report-left ≡ report-left′)
 one-list x y =
     (same-result listing-number listing-values listing-from listing-again (x .replies) (y .replies), cc, cc)
 
@@ -113,13 +110,3 @@ one-longest x y = (same-result longest-number longest-values longest-from longes
 
 pub one-room : {n : ℕ} {r r′ : Room} → RoomPromise n r → RoomPromise n r′ → r ≡ r′
 one-room x y = same-result room-number room-values room-from room-again (x .replies) (y .replies)
-
--- ---- the match tables
-
-pub one-cut : (from to : ℕ) {r r′ : ℕ} → r ≡ cut from to → r′ ≡ cut from to → r ≡ r′
-one-cut from to x y = cc
-
-pub one-filling : (t work : List ℕ) (q : Part) (count : ℕ) {r r′ : ℕ} {work-left work-left′ : List ℕ}
-    → (r ≡ count + part-comparisons t q) × (work-left ≡ with-tables t q work)
-    → (r′ ≡ count + part-comparisons t q) × (work-left′ ≡ with-tables t q work) → (r ≡ r′) × (work-left ≡ work-left′)
-one-filling t work q count x y = (cc, cc)

@@ -17,7 +17,7 @@ use Rattle.repetition.specs.Comparisons.{comparisons}
 use Rattle.repetition.specs.Limits.{length-limit, greatest-depth, numbers-per-block, depth, room-for}
 use Rattle.repetition.specs.Memory.{room}
 use Rattle.repetition.specs.Outcomes.{Reply, refusal, Listed, listing, listed, Asked}
-use Rattle.repetition.specs.Outcomes.{repetition-free, free-test, longest-of as longest-block, longest-in, longest}
+use Rattle.repetition.specs.Outcomes.{repetition-free, free-test, longest-of, longest-in, longest}
 use Rattle.repetition.specs.Outcomes.{place}
 use Rattle.repetition.proofs.Lists.{is-false}
 use Rattle.repetition.proofs.Listing.{empty-list, free-text}
@@ -66,8 +66,8 @@ module _ (report : List ℕ) {r : Searched} (y : Tally) (is : r ≡ sought.Found
   full-is l = rw (is, lt-leb (y .blocks) (length report / numbers-per-block) l)
 
 list-as : (t work report : List ℕ) (r : Listing) (o : Listed) → listing t work report ≡ o
-    → reply (listing-number r) (listing-values r) ≡ o .reply → ListPromise t work report r (o .report) (o .work)
-list-as t work report r o e f = record { replies = rw e f; leaves-report = rw e; leaves-work = rw e }
+    → reply (listing-number r) (listing-values r) ≡ o .reply → ListPromise t work report r (o .work) (o .report)
+list-as t work report r o e f = record { replies = rw e f; leaves-work = rw e; leaves-report = rw e }
 
 listed-reply : (t work report : List ℕ) → let r = listing-of (room report) (sought.Found (tally-of t)) in
     reply (listing-number r) (listing-values r) ≡ listed t work report .reply
@@ -80,12 +80,12 @@ listed-reply t work report = go (leb (length (list-of t)) (room report))
     go true = refl
     go false = refl
 
-pub list-promise : (t work report : List ℕ) {a : Listing} {r : Searched} {report′ work′ : List ℕ} → a ≡ listing-of (room report) r
-    → searched r report′ work′ ≡ searching t work report → ListPromise t work report a report′ work′
+pub list-promise : (t work report : List ℕ) {a : Listing} {r : Searched} {work′ report′ : List ℕ} → a ≡ listing-of (room report) r
+    → searched r work′ report′ ≡ searching t work report → ListPromise t work report a work′ report′
 unfolding listed
 list-promise t work report is e =
     rw is
-    (by-outcome t work report (λ r report′ work′. ListPromise t work report (listing-of (room report) r) report′ work′)
+    (by-outcome t work report (λ r work′ report′. ListPromise t work report (listing-of (room report) r) work′ report′)
     (λ l. list-as t work report _ _ (listing-refused t work report 0 (refused-1 t work l)) refl)
     (λ l m. list-as t work report _ _ (listing-refused t work report 1 (refused-2 t work l m)) refl)
     (λ l m. list-as t work report _ _ (listing-taken t work report (not-refused t work l m)) (listed-reply t work report))
@@ -93,22 +93,22 @@ list-promise t work report is e =
 
 -- ---- the longest repetition
 
-abbrev pub longest-of : Searched → Longest
-longest-of sought.TextTooLong = reply-longest.TextTooLong
-longest-of sought.WorkTooShort = reply-longest.WorkTooShort
-longest-of (sought.Found y) = cond (eqb (y .half) 0) reply-longest.Nothing (reply-longest.Found (y .start) (y .half))
+abbrev pub longest-answered : Searched → Longest
+longest-answered sought.TextTooLong = reply-longest.TextTooLong
+longest-answered sought.WorkTooShort = reply-longest.WorkTooShort
+longest-answered (sought.Found y) = cond (eqb (y .half) 0) reply-longest.Nothing (reply-longest.Found (y .start) (y .half))
 
 module _ {r : Searched} (y : Tally) (is : r ≡ sought.Found y) where
-  pub nothing-when : y .half ≡ 0 → reply-longest.Nothing ≡ longest-of r
+  pub nothing-when : y .half ≡ 0 → reply-longest.Nothing ≡ longest-answered r
   nothing-when e = rw (is, e)
 
-  pub found-when : (y .half ≡ 0 → ⊥) → reply-longest.Found (y .start) (y .half) ≡ longest-of r
+  pub found-when : (y .half ≡ 0 → ⊥) → reply-longest.Found (y .start) (y .half) ≡ longest-answered r
   found-when f = rw (is, ne-eqb (y .half) 0 f)
 
 abbrev longest-reply : Longest → Reply
 longest-reply r = reply (longest-number r) (longest-values r)
 
-longest-whole : (t : List ℕ) → longest-reply (longest-of (sought.Found (tally-of t))) ≡ reply 0 (longest-in (list-of t))
+longest-whole : (t : List ℕ) → longest-reply (longest-answered (sought.Found (tally-of t))) ≡ reply 0 (longest-in (list-of t))
 unfolding tally-of longest-in
 longest-whole t = go (list-of t) refl
   where
@@ -118,8 +118,8 @@ longest-whole t = go (list-of t) refl
         ≡ reply 0 (longest-in bs)
     go [] e = refl
     go (b ∷ bs) e =
-        let c = longest-block b bs in
-        let one = longest-is t (c .first) (c .half) (ap longest-in e) .0 .nonempty in
+        let c = longest-of b bs in
+        let one = longest-is t (c .first) (c .half) (ap longest-in e) .stands .nonempty in
         rw (ne-eqb (c .half) 0 (omega arith))
 
 abbrev longest-answer : List ℕ → List ℕ
@@ -129,12 +129,12 @@ longest-as : (t work : List ℕ) (a : Longest) (o : Asked) → longest t work �
     → LongestPromise t work a (o .work)
 longest-as t work a o e f = record { replies = rw e f; leaves-work = rw e }
 
-pub longest-promise : (t work report : List ℕ) {a : Longest} {r : Searched} {report′ work′ : List ℕ} → a ≡ longest-of r
-    → searched r report′ work′ ≡ searching t work report → LongestPromise t work a work′
+pub longest-promise : (t work report : List ℕ) {a : Longest} {r : Searched} {work′ report′ : List ℕ} → a ≡ longest-answered r
+    → searched r work′ report′ ≡ searching t work report → LongestPromise t work a work′
 unfolding longest
 longest-promise t work report is e =
     rw is
-    (by-outcome t work report (λ r _ work′. LongestPromise t work (longest-of r) work′)
+    (by-outcome t work report (λ r work′ _. LongestPromise t work (longest-answered r) work′)
     (λ l. longest-as t work _ _ (asked-refused t work longest-answer 0 (refused-1 t work l)) refl)
     (λ l m. longest-as t work _ _ (asked-refused t work longest-answer 1 (refused-2 t work l m)) refl)
     (λ l m. longest-as t work _ _ (asked-taken t work longest-answer (not-refused t work l m)) (longest-whole t))

@@ -16,13 +16,13 @@ use Rattle.tables.specs.Parts.{part, letters, with-tables}
 use Rattle.tables.proofs.Parts.{length-with-tables}
 use Rattle.finder.specs.declared.tally.Tally.{Tally}
 use Rattle.finder.specs.Kept.{Kept, kept, compared, found, found-all}
-use Rattle.finder.specs.Finding.{tables-left, letters-in, HasRoom, CanFindPart, CanFind}
+use Rattle.finder.specs.Finding.{tables-left, letters-in, HasRoom, CanFindPart, CanFind, Finds}
 use Rattle.finder.proofs.Puts.{length-put-all, blocks-put-all, comparisons-put-all}
 
 -- ---- a fold over the parts: nothing for a small part, else the part, its left piece and its right piece
 
 module _ {A : Type 0} (f : A → Part → A) (x : A) (a b : ℕ) where
-  pub none-over : b - a < 2 → foldl f x (parts a b) ≡ x
+  none-over : b - a < 2 → foldl f x (parts a b) ≡ x
   none-over l = ap (foldl f x) (parts-small a b l)
 
   over-pieces : 2 ≤ b - a
@@ -86,9 +86,10 @@ unfolding found
 length-found-all t k [] = refl
 length-found-all t k (q ∷ qs) = length-found-all t (found t k q) qs ∙ length-put-all _ (part-blocks t q)
 
-pub report-kept : (t : List ℕ) (qs : List Part) (report report′ : List ℕ) (y y′ : Tally)
-    → kept report′ y′ ≡ found-all t (kept report y) qs → length report′ ≡ length report
-report-kept t qs report report′ y y′ e = ap (λ (k : Kept). length (k .report)) e ∙ length-found-all t (kept report y) qs
+pub report-kept : {t work report work-left report-left : List ℕ} {qs : List Part} {y r : Tally}
+    → Finds t work report qs y r work-left report-left → length report-left ≡ length report
+report-kept {t = t} {report = report} {qs = qs} {y = y} f =
+    ap (λ (k : Kept). length (k .report)) (f .keeps) ∙ length-found-all t (kept report y) qs
 
 length-tables-left : (t : List ℕ) → length t ≤ length-limit → (a b : ℕ) → b ≤ length t → (work : List ℕ)
     → 2 * (b - a) ≤ length work → length (tables-left t work (parts a b)) ≡ length work
@@ -102,6 +103,11 @@ length-tables-left t limit =
     let f = us (omega arith) (with-tables t (part x y) work) (omega (arith, e)) in
     ap length (foldl-append (λ w q. with-tables t q w) (with-tables t (part x y) work) (parts x (cut x y)) (parts (cut x y) y))
     ∙ vs in-text (tables-left t (with-tables t (part x y) work) (parts x (cut x y))) (omega (arith, e, f)) ∙ f ∙ e)
+
+-- ---- a small part: nothing is found and nothing left
+
+pub none-found : {t work report : List ℕ} {y : Tally} (a b : ℕ) → b - a < 2 → Finds t work report (parts a b) y y work report
+none-found a b l = record { keeps = sym (none-over _ _ a b l); leaves-work = sym (none-over _ _ a b l) }
 
 -- ---- the way from a part to its pieces
 
@@ -117,19 +123,18 @@ module _ (t work : List ℕ) (from to : ℕ) (y : Tally) (can : CanFind t work f
           counts = omega (arith, can .counts, letters-pieces from to wide);
         }
 
-    module _ (report : List ℕ) {c : ℕ} {work₁ report₁ : List ℕ} {y₁ : Tally} (cut-is : c ≡ cut from to)
-        (filled : work₁ ≡ with-tables t (part from to) work)
-        (here : kept report₁ y₁ ≡ found t (kept report y) (part from to)) where
+    module _ {report : List ℕ} {c : ℕ} {y₁ : Tally} {work₁ report₁ : List ℕ} (cut-is : c ≡ cut from to)
+        (here : Finds t work report (part from to ∷ []) y y₁ work₁ report₁) where
       room-pieces : HasRoom y₁ (letters-in from c + letters-in c to)
       room-pieces =
           let g = grown-found t (kept report y) (part from to) wide (can .inside) in
           let e = letters-pieces from to wide in
           rw cut-is
           (room-after y y₁ (to - from) _ (omega (arith, can .counts, e))
-          (rw (ap (λ (k : Kept). k .tally) here) g))
+          (rw (ap (λ (k : Kept). k .tally) (here .keeps)) g))
 
       length-here : length work₁ ≡ length work
-      length-here = ap length filled ∙ length-with-tables t work (part from to) (can-part .placed)
+      length-here = ap length (here .leaves-work) ∙ length-with-tables t work (part from to) (can-part .placed)
 
       pub can-left : CanFind t work₁ from c y₁
       can-left =
@@ -142,13 +147,13 @@ module _ (t work : List ℕ) (from to : ℕ) (y : Tally) (can : CanFind t work f
             counts = omega (arith, room-pieces);
           }
 
-      module _ {work₂ report₂ : List ℕ} {y₂ : Tally} (left-tables : work₂ ≡ tables-left t work₁ (parts from c))
-          (lefts : kept report₂ y₂ ≡ found-all t (kept report₁ y₁) (parts from c)) where
+      module _ {y₂ : Tally} {work₂ report₂ : List ℕ} (lefts : Finds t work₁ report₁ (parts from c) y₁ y₂ work₂ report₂) where
         pub can-right : CanFind t work₂ c to y₂
         can-right =
             let w = cut-inside from to wide in
             let g = grown-all t from c (can-left .inside) (kept report₁ y₁) in
-            let e = ap length left-tables ∙ length-tables-left t (can .limit) from c (can-left .inside) work₁ (can-left .room) in
+            let e =
+            ap length (lefts .leaves-work) ∙ length-tables-left t (can .limit) from c (can-left .inside) work₁ (can-left .room) in
             record {
               ordered = omega arith;
               inside = can .inside;
@@ -156,16 +161,20 @@ module _ (t work : List ℕ) (from to : ℕ) (y : Tally) (can : CanFind t work f
               room = omega (arith, can .room, length-here, e);
               counts =
                   room-after y₁ y₂ (letters-in from c) (letters-in c to) room-pieces
-                  (rw (ap (λ (k : Kept). k .tally) lefts) g);
+                  (rw (ap (λ (k : Kept). k .tally) (lefts .keeps)) g);
             }
 
-        pub all-found : {report₃ : List ℕ} {y₃ : Tally} → kept report₃ y₃ ≡ found-all t (kept report₂ y₂) (parts c to)
-            → kept report₃ y₃ ≡ found-all t (kept report y) (parts from to)
-        all-found rights = rights ∙ rw (lefts, here, cut-is) (sym (over-pieces (found t) (kept report y) from to wide))
-
-        pub all-tables : {work₃ : List ℕ} → work₃ ≡ tables-left t work₂ (parts c to) → work₃ ≡ tables-left t work (parts from to)
-        all-tables rights =
-            rights ∙ rw (left-tables, filled, cut-is) (sym (over-pieces (λ w q. with-tables t q w) work from to wide))
+        pub all-found : {y₃ : Tally} {work₃ report₃ : List ℕ} → Finds t work₂ report₂ (parts c to) y₂ y₃ work₃ report₃
+            → Finds t work report (parts from to) y y₃ work₃ report₃
+        all-found rights =
+            record {
+              keeps =
+                  rights .keeps ∙ rw (lefts .keeps, here .keeps, cut-is)
+                  (sym (over-pieces (found t) (kept report y) from to wide));
+              leaves-work =
+                  rights .leaves-work ∙ rw (lefts .leaves-work, here .leaves-work, cut-is)
+                  (sym (over-pieces (λ w q. with-tables t q w) work from to wide));
+            }
 
 pub pieces-fall : (a b : ℕ) {c : ℕ} → c ≡ cut a b → 2 ≤ b - a → (c - a < b - a) × (b - c < b - a)
 pieces-fall a b cut-is wide = omega (arith, cut-inside a b wide)

@@ -1,13 +1,13 @@
 -- A part is found: its tables are filled, and its right and left blocks are put. Assumes nothing.
 use Prim.Native.Nat.{ℕ, _+_, _-_, _^_, _≤_, _<_}
 use mathlib.Core.Path.{_≡_, sym, ap, _∙_}
-use mathlib.Core.List.{List, foldl-append}
+use mathlib.Core.List.{List, [], _∷_, foldl-append}
 use native.Mathlib.Omega.{arith}
 use lib.ListN.{length}
 use Rattle.repetition.specs.Cutting.{Part, right, left, cut-of}
 use Rattle.repetition.specs.Blocks.{class-blocks, part-blocks}
-use Rattle.repetition.specs.Comparisons.{part-comparisons}
 use Rattle.tables.specs.Parts.{with-tables, CanFillPart}
+use Rattle.tables.specs.Promises.{TablesPromise}
 use Rattle.tables.proofs.Parts.{sizes, length-with-tables}
 use Rattle.finder.specs.declared.tally.Tally.{Tally}
 use Rattle.tables.specs.declared.CutPart.{CutPart}
@@ -15,7 +15,7 @@ use Rattle.finder.specs.declared.reading.Class.{Class}
 use Rattle.finder.specs.declared.reading.Class.the-variants.{Right, Left}
 use Rattle.finder.specs.Kept.{Kept, kept, compared, put, put-all, found}
 use Rattle.finder.specs.Reading.{read-all, most-of, CanReadAll}
-use Rattle.finder.specs.Finding.{CanFindPart}
+use Rattle.finder.specs.Finding.{CanFindPart, Finds}
 use Rattle.finder.proofs.Puts.{blocks-put-all}
 use Rattle.finder.proofs.Classes.{read-size}
 use Rattle.finder.proofs.TableBlocks.{cut-part, class-is, well-cut, inside}
@@ -44,11 +44,11 @@ module _ (t work : List ℕ) (q : Part) (y : Tally) (can : CanFindPart t work q 
         counts = l;
       }
 
-  module _ {c : ℕ} {tables : List ℕ} {count : ℕ} {y₁ : Tally} (cut-is : c ≡ cut-of q) (filled : tables ≡ with-tables t q work)
-      (counted : count ≡ y .comparisons + part-comparisons t q) (takes : y₁ ≡ compared y count) where
+  module _ {c count : ℕ} {tables : List ℕ} {y₁ : Tally} (cut-is : c ≡ cut-of q)
+      (filled : TablesPromise t work q (y .comparisons) count tables) (takes : y₁ ≡ compared y count) where
     pub can-right : CanReadAll tables (cut-at q c) Right y₁
     can-right =
-        rw (filled, cut-is, takes)
+        rw (filled .leaves-work, cut-is, takes)
         (reads Right (compared y count) (omega (arith, can .counts, sizes t work q (can .placed))))
 
     module _ (report : List ℕ) {report₁ : List ℕ} {y₂ : Tally}
@@ -60,16 +60,20 @@ module _ (t work : List ℕ) (q : Part) (y : Tally) (can : CanFindPart t work q 
           let l : length blocks ≤ q .to - cut-of q =
           omega (arith, read-size tables (cut-at q c) Right (most-of (cut-at q c) Right)) in
           let z = sizes t work q (can .placed) .between in
-          rw (filled, cut-is)
+          rw (filled .leaves-work, cut-is)
           (reads Left y₂
           (room-left (y .blocks) (y₂ .blocks) (length blocks) (2 ^ 32) (q .from) (cut-of q) (q .to)
           (e ∙ ap (λ (x : Tally). x .blocks + length blocks) takes) l z (can .counts .blocks-fit)))
 
       pub part-found : {report₂ : List ℕ} {y₃ : Tally}
           → kept report₂ y₃ ≡ put-all (kept report₁ y₂) (read-all tables (cut-at q c) Left)
-          → kept report₂ y₃ ≡ found t (kept report y) q
+          → Finds t work report (q ∷ []) y y₃ tables report₂
       unfolding found part-blocks
       part-found lefts =
-          lefts ∙ rw (rights, takes, counted, filled, cut-is)
-          (rw (class-is t work q (can .placed) Right, class-is t work q (can .placed) Left)
-          (sym (foldl-append put _ (class-blocks t right q) (class-blocks t left q))))
+          record {
+            keeps =
+                lefts ∙ rw (rights, takes, filled .counts, filled .leaves-work, cut-is)
+                (rw (class-is t work q (can .placed) Right, class-is t work q (can .placed) Left)
+                (sym (foldl-append put _ (class-blocks t right q) (class-blocks t left q))));
+            leaves-work = filled .leaves-work;
+          }

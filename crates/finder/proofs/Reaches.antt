@@ -9,7 +9,7 @@ use lib.Dec.{ltb}
 use lib.ListN.{getD}
 use mir.Syntax.{w16, w64}
 use mir.Val.{Fits}
-use Rattle.repetition.specs.Tables.{around}
+use Rattle.repetition.specs.Reading.{around}
 use Rattle.tables.specs.declared.CutPart.{CutPart}
 use Rattle.finder.specs.declared.reading.Reach.{Reach}
 use Rattle.finder.specs.declared.reading.Class.{Class}

@@ -31,7 +31,7 @@ module _ (t work : List ℕ) where
   -- ---- the list
 
   pub listing-refused : (report : List ℕ) (k : ℕ) → refusal t work ≡ suc k
-      → listing t work report ≡ record { reply = refused (suc k); report = report; work = work }
+      → listing t work report ≡ record { reply = refused (suc k); work = work; report = report }
   unfolding listing
   listing-refused report k e = rw (e, listing)
 

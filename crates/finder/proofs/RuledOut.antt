@@ -24,7 +24,7 @@ use Rattle.finder.specs.Replies.{listing-number, listing-values, place-v
 use Rattle.finder.specs.Replies.{longest-values, room-number, room-values}
 use Rattle.finder.specs.Promises.{ListPromise, PlacePromise, FreePromise, LongestPromise, RoomPromise}
 use Rattle.finder.proofs.Demands.{demand-1, demand-2, demand-3, place-meaning, free-meaning}
-use Rattle.finder.proofs.Demands.{longest-meaning, room-answer}
+use Rattle.finder.proofs.Demands.{longest-meaning, room-meaning}
 
 -- lists that are equal begin alike
 first : {x y : ℕ} {xs ys : List ℕ} → x ∷ xs ≡ y ∷ ys → x ≡ y
@@ -37,22 +37,22 @@ block half first last = record { half = half; first = first; last = last }
 abbrev whole : Part
 whole = record { from = 0; to = 4 }
 
-module _ {work report report-left work-left : List ℕ} {r : Listing} where
+module _ {work report work-left report-left : List ℕ} {r : Listing} where
   -- ---- a finder that refuses every text
 
-  pub empty-text-taken : ListPromise [] work report r report-left work-left → listing-number r ≡ 0
+  pub empty-text-taken : ListPromise [] work report r work-left report-left → listing-number r ≡ 0
   unfolding list-of
   empty-text-taken x = demand-1 _ _ _ _ _ _ x .grounds .finished .1 (omega arith)
 
   pub limit-taken : {t : List ℕ} → length t ≡ length-limit → length work ≡ 2 * length t
-      → ListPromise t work report r report-left work-left → (listing-number r ≡ 1 → ⊥) × (listing-number r ≡ 2 → ⊥)
+      → ListPromise t work report r work-left report-left → (listing-number r ≡ 1 → ⊥) × (listing-number r ≡ 2 → ⊥)
   limit-taken l m x =
       let g = demand-1 _ _ _ _ _ _ x .grounds in
       (λ e. omega (arith, g .too-long .0 e), λ e. omega (arith, g .work-short .0 e .1))
 
   -- ---- one that gives an empty list each time
 
-  module _ (x : ListPromise aa work report r report-left work-left) (l : 4 ≤ length work) (m : 1 ≤ room report) where
+  module _ (x : ListPromise aa work report r work-left report-left) (l : 4 ≤ length work) (m : 1 ≤ room report) where
     pub aa-finished : listing-number r ≡ 0
     unfolding list-of
     aa-finished = demand-1 _ _ _ _ _ _ x .grounds .finished .1 (omega arith)
@@ -67,7 +67,7 @@ module _ {work report report-left work-left : List ℕ} {r : Listing} where
 
   -- ---- one that does the first cut and only pretends in the pieces
 
-  module _ (x : ListPromise aaaa work report r report-left work-left) (l : 8 ≤ length work) (m : 4 ≤ room report) where
+  module _ (x : ListPromise aaaa work report r work-left report-left) (l : 8 ≤ length work) (m : 4 ≤ room report) where
     pub aaaa-finished : listing-number r ≡ 0
     unfolding list-of
     aaaa-finished = demand-1 _ _ _ _ _ _ x .grounds .finished .1 (omega arith)
@@ -87,15 +87,15 @@ module _ {work report report-left work-left : List ℕ} {r : Listing} where
 
   -- ---- one that invents the comparisons figure: "aba" has 6, where the bound is 24
 
-  pub aba-totals : ListPromise aba work report r report-left work-left → 6 ≤ length work
+  pub aba-totals : ListPromise aba work report r work-left report-left → 6 ≤ length work
       → (listing-values r ≡ 0 ∷ 6 ∷ []) × (4 * length aba * depth (length aba) ≡ 24)
   unfolding list-of comparisons depth
   aba-totals x l = (demand-3 _ _ _ _ _ _ x (omega arith) (omega arith) .values, refl)
 
 -- a text has one figure, whatever work space and report are lent
-pub one-figure : {t work work′ report report′ report-left report-left′ work-left work-left′ : List ℕ} {r r′ : Listing}
+pub one-figure : {t work work′ report report′ work-left work-left′ report-left report-left′ : List ℕ} {r r′ : Listing}
     → length t ≤ length-limit → 2 * length t ≤ length work → 2 * length t ≤ length work′
-    → ListPromise t work report r report-left work-left → ListPromise t work′ report′ r′ report-left′ work-left′
+    → ListPromise t work report r work-left report-left → ListPromise t work′ report′ r′ work-left′ report-left′
     → listing-values r ≡ listing-values r′
 one-figure l m m′ x y = demand-3 _ _ _ _ _ _ x l m .values ∙ sym (demand-3 _ _ _ _ _ _ y l m′ .values)
 
@@ -107,7 +107,7 @@ nines-3 = 9 ∷ 9 ∷ 9 ∷ []
 abbrev nines-4 : List ℕ
 nines-4 = 9 ∷ nines-3
 
-module _ {report-left work-left : List ℕ} {r : Listing} (x : ListPromise aa nines-4 nines-3 r report-left work-left) where
+module _ {work-left report-left : List ℕ} {r : Listing} (x : ListPromise aa nines-4 nines-3 r work-left report-left) where
   pub report-touched : report-left ≡ nines-3 → ⊥
   unfolding listing
   report-touched e = omega (arith, first (sym e ∙ x .leaves-report))
@@ -148,9 +148,8 @@ module _ {work work′ work-left work-left′ : List ℕ} (l : 4 ≤ length work
 -- ---- a room question that refuses the limit, or goes past it
 
 pub room-at-limit : {r : Room} → RoomPromise length-limit r → room-values r ≡ 229_376 ∷ []
-unfolding room-for
-room-at-limit x = room-answer length-limit _ (omega arith) x
+unfolding depth
+room-at-limit x = room-meaning length-limit _ x .answer (omega arith)
 
 pub room-past-limit : {r : Room} → RoomPromise (suc length-limit) r → room-number r ≡ 1
-unfolding room-question
-room-past-limit x = ap (λ (a : Reply). a .number) (x .replies)
+room-past-limit x = room-meaning (suc length-limit) _ x .too-long .1 (omega arith)

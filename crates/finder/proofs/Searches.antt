@@ -26,7 +26,7 @@ use Rattle.finder.specs.declared.search.Searched.{Searched}
 use Rattle.finder.specs.declared.search.Searched.the-variants.{Found, TextTooLong, WorkTooShort}
 use Rattle.finder.specs.Kept.{Kept, kept, no-tally, found, found-all}
 use Rattle.finder.specs.Finding.{CanFind}
-use Rattle.finder.specs.Searching.{CanSearch, kept-of, tally-of, Sought, searched, searching}
+use Rattle.finder.specs.Searching.{CanSearch, kept-of, tally-of, SearchesAll, Sought, searched, searching}
 use Rattle.finder.proofs.Written.{kept-after, kept-none, put-after}
 
 -- ---- what is kept of all parts
@@ -112,34 +112,34 @@ module _ (t work : List ℕ) (l : length t ≤ length-limit) (m : 2 * length t �
   cleared-is f = rw (f, ← first-part, length-replicate)
 
 module _ (t work report : List ℕ) where
-  pub searched-long : length-limit < length t → searched TextTooLong report work ≡ searching t work report
+  pub searched-long : length-limit < length t → searched TextTooLong work report ≡ searching t work report
   unfolding searching
   searched-long l = rw (lt-ltb length-limit (length t) l, searching)
 
   pub searched-short : length t ≤ length-limit → length work < 2 * length t
-      → searched WorkTooShort report work ≡ searching t work report
+      → searched WorkTooShort work report ≡ searching t work report
   unfolding searching
   searched-short l m = rw (le-ltb length-limit (length t) l, lt-ltb (length work) (2 * length t) m, searching)
 
   whole-found : length t ≤ length-limit → 2 * length t ≤ length work
-      → searched (Found (tally-of t)) (written (list-of t) report) (cleared (length t) work) ≡ searching t work report
+      → searched (Found (tally-of t)) (cleared (length t) work) (written (list-of t) report) ≡ searching t work report
   unfolding searching
   whole-found l m = rw (le-ltb length-limit (length t) l, le-ltb (length work) (2 * length t) m, searching)
 
   pub searched-found : length t ≤ length-limit → 2 * length t ≤ length work
-      → {y : Tally} {report′ work′ : List ℕ} → kept report′ y ≡ kept-of t report
-      → work′ ≡ replicate (length (take (2 * length t) work)) 0
-      → searched (Found y) report′ (work′ ++ drop (2 * length t) work) ≡ searching t work report
-  searched-found l m e f =
-      ap₂ (λ (k : Kept) (w : List ℕ). searched (Found (k .tally)) (k .report) w) e (cleared-is t work l m f) ∙ whole-found l m
+      → {y : Tally} {work′ report′ : List ℕ} → SearchesAll t (take (2 * length t) work) report y work′ report′
+      → searched (Found y) (work′ ++ drop (2 * length t) work) report′ ≡ searching t work report
+  searched-found l m all =
+      ap₂ (λ (k : Kept) (w : List ℕ). searched (Found (k .tally)) w (k .report)) (all .keeps)
+      (cleared-is t work l m (all .leaves-work)) ∙ whole-found l m
 
   -- What holds of each of the three outcomes holds of the outcome.
   pub by-outcome : (P : Searched → List ℕ → List ℕ → Type 0)
-      → (length-limit < length t → P TextTooLong report work)
-      → (length t ≤ length-limit → length work < 2 * length t → P WorkTooShort report work)
+      → (length-limit < length t → P TextTooLong work report)
+      → (length t ≤ length-limit → length work < 2 * length t → P WorkTooShort work report)
       → (length t ≤ length-limit → 2 * length t ≤ length work
-      → P (Found (tally-of t)) (written (list-of t) report) (cleared (length t) work))
-      → {r : Searched} {report′ work′ : List ℕ} → searched r report′ work′ ≡ searching t work report → P r report′ work′
+      → P (Found (tally-of t)) (cleared (length t) work) (written (list-of t) report))
+      → {r : Searched} {work′ report′ : List ℕ} → searched r work′ report′ ≡ searching t work report → P r work′ report′
   by-outcome P long short whole e =
       elim (decLt length-limit (length t)) [
         | yes l ↦ at (e ∙ sym (searched-long l)) (long l)
@@ -149,5 +149,5 @@ module _ (t work report : List ℕ) where
         ]
       ]
     where
-      at : {a b : Sought} → a ≡ b → P (b .result) (b .report) (b .work) → P (a .result) (a .report) (a .work)
-      at e x = subst (λ (o : Sought). P (o .result) (o .report) (o .work)) (sym e) x
+      at : {a b : Sought} → a ≡ b → P (b .result) (b .work) (b .report) → P (a .result) (a .work) (a .report)
+      at e x = subst (λ (o : Sought). P (o .result) (o .work) (o .report)) (sym e) x

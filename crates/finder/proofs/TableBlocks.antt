@@ -11,7 +11,8 @@ use lib.ListN.{length, getD, length-drop, drop-of-length-le}
 use Rattle.repetition.specs.Numbers.{consecutive}
 use Rattle.repetition.specs.Cutting.{Part, Class, right, left, cut-of}
 use Rattle.repetition.specs.Blocks.{class-blocks}
-use Rattle.repetition.specs.Tables.{matched, match-at, around, read-block, greatest-half, left-piece, right-piece}
+use Rattle.repetition.specs.Tables.{matched, match-at, left-piece, right-piece}
+use Rattle.repetition.specs.Reading.{around, read-block, greatest-half}
 use Rattle.repetition.specs.Tables.{v-itself, u-back-itself, v-back-against-u-back, u-against-v}
 use Rattle.repetition.proofs.Lists.{flatMap-each}
 use Rattle.repetition.proofs.Matching.{match-at-is}

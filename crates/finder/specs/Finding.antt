@@ -1,5 +1,6 @@
 -- The parts of a text, found one after the other.
 use Prim.Native.Nat.{ℕ, _+_, _*_, _^_, _-_, _≤_, _<_}
+use mathlib.Core.Path.{_≡_}
 use mathlib.Core.List.{List, foldl}
 use lib.ListN.{length}
 use Rattle.repetition.specs.Numbers.{total}
@@ -7,10 +8,16 @@ use Rattle.repetition.specs.Cutting.{Part, parts}
 use Rattle.repetition.specs.Limits.{length-limit}
 use Rattle.tables.specs.Parts.{letters, with-tables, PartPlaced}
 use Rattle.finder.specs.declared.tally.Tally.{Tally}
+use Rattle.finder.specs.Kept.{kept, found-all}
 
 -- the work space with the tables of some parts, each over those before
 abbrev pub tables-left : List ℕ → List ℕ → List Part → List ℕ
 tables-left t = foldl (λ w q. with-tables t q w)
+
+-- What the finding of some parts promises: work space, report and tally as they are given, and as they are left.
+pub record Finds (t work report : List ℕ) (qs : List Part) (y r : Tally) (work-left report-left : List ℕ) : Type 0 where
+  pub keeps : kept report-left r ≡ found-all t (kept report y) qs
+  pub leaves-work : work-left ≡ tables-left t work qs
 
 -- Counts have room for n letters more: at most one block and four comparisons for each.
 pub record HasRoom (y : Tally) (n : ℕ) : Type 0 where

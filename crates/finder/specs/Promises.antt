@@ -1,4 +1,5 @@
--- What each entry promises: the whole outcome, as document 01's definitions give it.
+-- What each entry promises: the whole outcome, as document 01's definitions give it. Lent memory stands in one order: text, work
+-- space, report; first as it was lent, then, after the reply, as it is left.
 use Prim.Native.Nat.{ℕ}
 use mathlib.Core.Path.{_≡_}
 use mathlib.Core.List.{List}
@@ -11,11 +12,10 @@ use Rattle.finder.specs.declared.reply.Room.{Room}
 use Rattle.finder.specs.Replies.{reply, listing-number, listing-values, place-number, place-values}
 use Rattle.finder.specs.Replies.{freedom-number, freedom-values, longest-number, longest-values, room-number, room-values}
 
--- the list: text, work space and report as lent; the reply, and report and work space as they are left
-pub record ListPromise (t work report : List ℕ) (r : Listing) (report-left work-left : List ℕ) : Type 0 where
+pub record ListPromise (t work report : List ℕ) (r : Listing) (work-left report-left : List ℕ) : Type 0 where
   pub replies : reply (listing-number r) (listing-values r) ≡ listing t work report .reply
-  pub leaves-report : report-left ≡ listing t work report .report
   pub leaves-work : work-left ≡ listing t work report .work
+  pub leaves-report : report-left ≡ listing t work report .report
 
 pub record PlacePromise (t : List ℕ) (s p : ℕ) (r : Place) : Type 0 where
   pub replies : reply (place-number r) (place-values r) ≡ place t s p

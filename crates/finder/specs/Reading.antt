@@ -8,7 +8,7 @@ use lib.ListN.{length, getD}
 use Rattle.repetition.specs.Numbers.{consecutive}
 use Rattle.repetition.specs.Blocks.{Block}
 use Rattle.repetition.specs.Limits.{length-limit}
-use Rattle.repetition.specs.Tables.{around}
+use Rattle.repetition.specs.Reading.{around}
 use Rattle.finder.specs.declared.tally.Tally.{Tally}
 use Rattle.tables.specs.declared.CutPart.{CutPart}
 use Rattle.finder.specs.declared.reading.Reach.{Reach}

@@ -31,7 +31,7 @@ impl Finder {
     // The list of all repetitions, as blocks in the report.
     pub fn list(text: &[u8], work: &mut [u16], report: &mut [u16]) -> Listing
         ensures { λ r. ⌜ ListPromise (now (text .entry)) (now (work .entry)) (now (report .entry))
-            r (now (report .exit)) (now (work .exit)) ⌝ }
+            r (now (work .exit)) (now (report .exit)) ⌝ }
     {
         let room = report.len() / Self::NUMBERS_PER_BLOCK;
         let searched = search::search(text, work, report);

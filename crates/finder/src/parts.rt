@@ -3,12 +3,11 @@ use crate::reading;
 use crate::reading::Class;
 use crate::tally::Tally;
 use tables::CutPart;
-ghost use mathlib.Core.Path.{_≡_};
-ghost use Rattle.tables.specs.Letters.{text-of, BothWays};
-ghost use Rattle.tables.specs.Parts.{whole, with-tables, IsCut};
+ghost use mathlib.Core.List.{[], _∷_};
 ghost use Rattle.repetition.specs.Cutting.{parts};
-ghost use Rattle.finder.specs.Kept.{kept, found, found-all};
-ghost use Rattle.finder.specs.Finding.{tables-left, CanFindPart, CanFind};
+ghost use Rattle.tables.specs.Letters.{text-of, BothWays};
+ghost use Rattle.tables.specs.Parts.{whole, IsCut};
+ghost use Rattle.finder.specs.Finding.{CanFindPart, CanFind, Finds};
 
 // The letters from a place up to another, which is not in it.
 pub struct Part {
@@ -25,9 +24,8 @@ fn find_part(
     tally: Tally,
 ) -> Tally
     requires { ⌜ BothWays (now letters) × IsCut part × CanFindPart (text-of (now letters)) (now work) (whole part) tally ⌝ }
-    ensures { λ r. ⌜ kept (now (report .exit)) r
-        ≡ found (text-of (now (letters .entry))) (kept (now (report .entry)) tally) (whole part) ⌝ }
-    ensures { λ _. ⌜ now (work .exit) ≡ with-tables (text-of (now (letters .entry))) (whole part) (now (work .entry)) ⌝ }
+    ensures { λ r. ⌜ Finds (text-of (now (letters .entry))) (now (work .entry)) (now (report .entry)) (whole part ∷ [])
+        tally r (now (work .exit)) (now (report .exit)) ⌝ }
 {
     let count = tables::fill_tables(letters, work, part, tally.comparisons);
     let with_right = reading::put_class(
@@ -49,10 +47,8 @@ pub fn find(
     tally: Tally,
 ) -> Tally
     requires { ⌜ BothWays (now letters) × CanFind (text-of (now letters)) (now work) (part .from) (part .to) tally ⌝ }
-    ensures { λ r. ⌜ kept (now (report .exit)) r
-        ≡ found-all (text-of (now (letters .entry))) (kept (now (report .entry)) tally) (parts (part .from) (part .to)) ⌝ }
-    ensures { λ _. ⌜ now (work .exit)
-        ≡ tables-left (text-of (now (letters .entry))) (now (work .entry)) (parts (part .from) (part .to)) ⌝ }
+    ensures { λ r. ⌜ Finds (text-of (now (letters .entry))) (now (work .entry)) (now (report .entry))
+        (parts (part .from) (part .to)) tally r (now (work .exit)) (now (report .exit)) ⌝ }
 {
     let from = part.from;
     let to = part.to;

@@ -10,8 +10,7 @@ ghost use Prim.Native.Nat.{_*_, _≤_};
 ghost use lib.ListN.{length, replicate};
 ghost use Rattle.repetition.specs.Memory.{over};
 ghost use Rattle.tables.specs.Letters.{both-ways};
-ghost use Rattle.finder.specs.Kept.{kept};
-ghost use Rattle.finder.specs.Searching.{kept-of, searched, searching, CanSearch};
+ghost use Rattle.finder.specs.Searching.{searched, searching, CanSearch, SearchesAll};
 
 pub enum Searched {
     Found(Tally),
@@ -32,8 +31,8 @@ fn clear(work: &mut [u16])
 // Finds the blocks of a text that is not refused, and clears the work space. The text's letters go to the front of the buffer.
 fn search_letters(text: &[u8], buffer: &mut [u16], work: &mut [u16], report: &mut [u16]) -> Tally
     requires { ⌜ CanSearch (now text) (now work) × (2 * length (now text) ≤ length (now buffer)) ⌝ }
-    ensures { λ r. ⌜ kept (now (report .exit)) r ≡ kept-of (now (text .entry)) (now (report .entry)) ⌝ }
-    ensures { λ _. ⌜ now (work .exit) ≡ replicate (length (now (work .entry))) 0 ⌝ }
+    ensures { λ r. ⌜ SearchesAll (now (text .entry)) (now (work .entry)) (now (report .entry))
+        r (now (work .exit)) (now (report .exit)) ⌝ }
     ensures { λ _. ⌜ now (buffer .exit) ≡ over (both-ways (now (text .entry))) (now (buffer .entry)) ⌝ }
 {
     let n = text.len();
@@ -49,15 +48,15 @@ fn search_letters(text: &[u8], buffer: &mut [u16], work: &mut [u16], report: &mu
 // The same with a buffer of its own, for the longest text.
 fn search_whole(text: &[u8], work: &mut [u16], report: &mut [u16]) -> Tally
     requires { ⌜ CanSearch (now text) (now work) ⌝ }
-    ensures { λ r. ⌜ kept (now (report .exit)) r ≡ kept-of (now (text .entry)) (now (report .entry)) ⌝ }
-    ensures { λ _. ⌜ now (work .exit) ≡ replicate (length (now (work .entry))) 0 ⌝ }
+    ensures { λ r. ⌜ SearchesAll (now (text .entry)) (now (work .entry)) (now (report .entry))
+        r (now (work .exit)) (now (report .exit)) ⌝ }
 {
     let mut buffer = [0u16; 2 * Finder::LENGTH_LIMIT];
     search_letters(text, &mut buffer, work, report)
 }
 
 pub fn search(text: &[u8], work: &mut [u16], report: &mut [u16]) -> Searched
-    ensures { λ r. ⌜ searched r (now (report .exit)) (now (work .exit))
+    ensures { λ r. ⌜ searched r (now (work .exit)) (now (report .exit))
         ≡ searching (now (text .entry)) (now (work .entry)) (now (report .entry)) ⌝ }
 {
     let n = text.len();

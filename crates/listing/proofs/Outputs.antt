@@ -41,15 +41,15 @@ module _ (t : List ℕ) where
     unfolding output
     output-full k = rw (le-ltb text-limit (length t) l, lt-leb (length (list-of t)) block-limit k, output)
 
-    module _ {work report : List ℕ} {r : Listing} {report-left work-left : List ℕ}
-        (promise : ListPromise t work report r report-left work-left) (enough : length work ≡ 2 * text-limit)
+    module _ {work report : List ℕ} {r : Listing} {work-left report-left : List ℕ}
+        (promise : ListPromise t work report r work-left report-left) (enough : length work ≡ 2 * text-limit)
         (as-many : length report ≡ numbers-per-block * block-limit) where
       room-is : room report ≡ block-limit
       unfolding room
       room-is = ap (λ (n : ℕ). n / numbers-per-block) as-many
 
-      abbrev grounds : Grounds t work report r report-left work-left
-      grounds = demand-1 t work report r report-left work-left promise .grounds
+      abbrev grounds : Grounds t work report r work-left report-left
+      grounds = demand-1 t work report r work-left report-left promise .grounds
 
       pub not-too-long : r ≡ listing.TextTooLong → ⊥
       not-too-long e = omega (arith, l, grounds .too-long .0 (ap listing-number e))
@@ -58,8 +58,8 @@ module _ (t : List ℕ) where
       not-too-short e = omega (arith, l, enough, grounds .work-short .0 (ap listing-number e) .1)
 
       module _ (a : Totals) (e : r ≡ listing.Finished a) where
-        list-is : Demand-2 t work report r report-left work-left
-        list-is = demand-2 t work report r report-left work-left promise (ap listing-number e)
+        list-is : Demand-2 t work report r work-left report-left
+        list-is = demand-2 t work report r work-left report-left promise (ap listing-number e)
 
         totals-of : (a .blocks ≡ length (list-of t)) × (a .comparisons ≡ comparisons t)
         totals-of = totals-are t a (ap listing-values (sym e) ∙ list-is .values)
@@ -76,5 +76,5 @@ module _ (t : List ℕ) where
       pub full-output : (a : Totals) → r ≡ listing.Full a → refused-3-word ++ number (a .blocks) line-feed ≡ output t
       full-output a e =
           let f = grounds .full .0 (ap listing-number e) in
-          let v = demand-1 t work report r report-left work-left promise .leading (ap listing-number e) .values in
+          let v = demand-1 t work report r work-left report-left promise .leading (ap listing-number e) .values in
           rw (output-full (omega (arith, room-is, f .2)), totals-are t a (ap listing-values (sym e) ∙ v) .0)

@@ -27,18 +27,18 @@ module _ (t work report answer : List ℕ) where
   list-short l =
       record {
         hands-back = back-short 2 answer l _;
-        leaves-report = kept-short 2 answer l report _;
         leaves-work = kept-short 2 answer l work _;
+        leaves-report = kept-short 2 answer l report _;
       }
 
   pub list-call : {r k : Listing} {work-left report-left answer-left : List ℕ} → 2 ≤ length answer
-      → ListPromise t work report r report-left work-left → r ≡ k → answer-left ≡ over (listing-values k) answer
+      → ListPromise t work report r work-left report-left → r ≡ k → answer-left ≡ over (listing-values k) answer
       → ListCall t work report answer (listing-number k) work-left report-left answer-left
   list-call l promise is put =
       record {
         hands-back = back-enough 2 answer l listing-number listing-values (promise .replies) is put;
-        leaves-report = promise .leaves-report ∙ kept-enough 2 answer l report _;
         leaves-work = promise .leaves-work ∙ kept-enough 2 answer l work _;
+        leaves-report = promise .leaves-report ∙ kept-enough 2 answer l report _;
       }
 
 -- ---- the place test
@@ -90,7 +90,7 @@ module _ (t work : List ℕ) where
   longest-fits {s = s} {p = p} promise is =
       let m = longest-meaning t work promise in
       let answered = ap longest-number is in
-      omega (arith, m .found answered s p (ap longest-values is) .0 .within, m .grounds .answered .0 answered .0)
+      omega (arith, m .found answered s p (ap longest-values is) .stands .within, m .grounds .answered .0 answered .0)
 
   module _ (answer : List ℕ) where
     pub longest-short : length answer < 2 → LongestCall t work answer answer-too-short work answer

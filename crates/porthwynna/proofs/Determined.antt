@@ -13,7 +13,7 @@ same-back e f = told (e ∙ sym f)
 pub one-list : {t work report answer work-left work-left′ report-left report-left′ answer-left answer-left′ : List ℕ} {r r′ : ℕ}
     → ListCall t work report answer r work-left report-left answer-left
     → ListCall t work report answer r′ work-left′ report-left′ answer-left′
-    → ((r ≡ r′) × (answer-left ≡ answer-left′)) × (report-left ≡ report-left′) × (work-left ≡ work-left′)
+    → ((r ≡ r′) × (answer-left ≡ answer-left′)) × (work-left ≡ work-left′) × (report-left ≡ report-left′)
 one-list x y = (same-back (x .hands-back) (y .hands-back), cc, cc)
 
 pub one-place : {t answer answer-left answer-left′ : List ℕ} {s p r r′ : ℕ} → PlaceCall t s p answer r answer-left

@@ -52,7 +52,7 @@ module _ {t work answer : List ℕ} {r : ℕ} {work-left answer-left : List ℕ}
       go zero e (b ∷ bs) f =
           let c = longest-of b bs in
           let half = half-is e (c .first) (c .half) (ap (λ bs. zeros-for-none (reply 0 (longest-in bs))) f) in
-          let one = longest-is t (c .first) (c .half) (ap longest-in f) .0 .nonempty in (
+          let one = longest-is t (c .first) (c .half) (ap longest-in f) .stands .nonempty in (
             λ z. absurd (omega arith),
             λ none. absurd (cons≢nil (sym f ∙ empty-list t .1 none)),
           )

@@ -38,11 +38,11 @@ module _ {answer answer-left : List ℕ} {r : ℕ} where
   module _ {t work work-left : List ℕ} where
     pub list-too-short : {report report-left : List ℕ} → ListCall t work report answer r work-left report-left answer-left
         → length answer < 2
-        → ((r ≡ answer-too-short) × (answer-left ≡ answer)) × (report-left ≡ report) × (work-left ≡ work)
+        → ((r ≡ answer-too-short) × (answer-left ≡ answer)) × (work-left ≡ work) × (report-left ≡ report)
     list-too-short x l = (
       too-short _ l (x .hands-back),
-      x .leaves-report ∙ sym (kept-short _ _ l _ _),
       x .leaves-work ∙ sym (kept-short _ _ l _ _),
+      x .leaves-report ∙ sym (kept-short _ _ l _ _),
     )
 
     pub free-too-short : FreeCall t work answer r work-left answer-left → length answer < 1

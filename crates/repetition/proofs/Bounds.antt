@@ -10,7 +10,8 @@ use lib.ListN.{length, length-append, length-reverse}
 use Rattle.repetition.specs.Numbers.{consecutive, total}
 use Rattle.repetition.specs.Cutting.{Part, Class, right, left, parts}
 use Rattle.repetition.specs.Blocks.{class-blocks, part-blocks, list-of}
-use Rattle.repetition.specs.Tables.{around, read-block, greatest-half, left-piece, right-piece, v-itself}
+use Rattle.repetition.specs.Tables.{left-piece, right-piece, v-itself}
+use Rattle.repetition.specs.Reading.{around, read-block, greatest-half}
 use Rattle.repetition.specs.Tables.{u-back-itself, v-back-against-u-back, u-against-v}
 use Rattle.repetition.specs.Comparisons.{part-comparisons, comparisons}
 use Rattle.repetition.specs.Limits.{length-limit, depth, room-for}

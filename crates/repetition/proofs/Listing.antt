@@ -15,7 +15,7 @@ use Rattle.repetition.specs.Numbers.{one-if, each-below, consecutive, to
 use Rattle.repetition.specs.Repetition.{Repetition, stands}
 use Rattle.repetition.specs.Cutting.{Part, Class, right, left, parts, belongs, is}
 use Rattle.repetition.specs.Blocks.{Block, has, new, starts, block-of, class-blocks, part-blocks, list-of}
-use Rattle.repetition.specs.Tables.{around}
+use Rattle.repetition.specs.Reading.{around}
 use Rattle.repetition.specs.Outcomes.{repetition-free}
 use Rattle.repetition.proofs.Lists.{is-false, each-below-at, each-below-true, same-test, total-same, total-zero}
 use Rattle.repetition.proofs.Lists.{total-none, total-only, how-many-append, how-many-some, some-counted, OnePlace}

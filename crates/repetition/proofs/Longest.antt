@@ -1,5 +1,5 @@
--- Law 7, the longest repetition: no other has a greater half, the blocks listed before its own have smaller ones,
--- and there is one whenever the list is not empty. Assumes nothing.
+-- Law 7, the longest repetition: no other has a greater half, it is the lowest start of the block met first of those, and there
+-- is one whenever the list is not empty. Assumes nothing.
 use Prim.Native.Nat.{ℕ, _≤_, _<_}
 use mathlib.Core.Path.{_≡_, refl, ap}
 use mathlib.Core.Logic.{⊎-elim}
@@ -77,21 +77,34 @@ module _ (t : List ℕ) where
       go [] h = absurd (h refl)
       go (b ∷ bs) h = (longest-of b bs .first, longest-of b bs .half, refl)
 
-  pub longest-is : (s p : ℕ) → longest-in (list-of t) ≡ s ∷ p ∷ []
-      → Repetition t s p × ((s′ p′ : ℕ) → Repetition t s′ p′ → p′ ≤ p)
+  -- The repetition s, p is the longest.
+  pub record IsLongest (s p : ℕ) : Type 0 where
+    pub stands : Repetition t s p
+    pub greatest : (s′ p′ : ℕ) → Repetition t s′ p′ → p′ ≤ p
+    -- among equals: the lowest start of the block met first
+    pub block : Block
+    pub half-is : block .half ≡ p
+    pub start-is : block .first ≡ s
+    pub met-first : First block (list-of t)
+
+  pub longest-is : (s p : ℕ) → longest-in (list-of t) ≡ s ∷ p ∷ [] → IsLongest s p
   unfolding longest-in
   longest-is s p e = go (list-of t) refl e
     where
-      go : (bs : List Block) → list-of t ≡ bs → longest-in bs ≡ s ∷ p ∷ []
-          → Repetition t s p × ((s′ p′ : ℕ) → Repetition t s′ p′ → p′ ≤ p)
+      go : (bs : List Block) → list-of t ≡ bs → longest-in bs ≡ s ∷ p ∷ [] → IsLongest s p
       go [] l h = absurd (nil≢cons h)
       go (b ∷ bs) l h =
           let c = longest-of b bs in
           let m : List·Memᴰ c (list-of t) = rw l (longest-listed b bs) in
           let first : c .first ≡ s = cc in
-          let half : c .half ≡ p = cc in (
-            rw (← first, ← half) (listed-repetition t (c .first) (c .half) c m (listed-start t c m)),
-            λ s′ p′ r.
+          let half : c .half ≡ p = cc in
+          record {
+            stands = rw (← first, ← half) (listed-repetition t (c .first) (c .half) c m (listed-start t c m));
+            greatest = λ s′ p′ r.
                 let k = repetition-listed t s′ p′ r in
-                omega (arith, longest-greatest b bs (k .0) (rw l at (k .1)), has-half s′ p′ (k .0) (k .2)),
-          )
+                omega (arith, longest-greatest b bs (k .0) (rw l at (k .1)), has-half s′ p′ (k .0) (k .2));
+            block = c;
+            half-is = half;
+            start-is = first;
+            met-first = rw l (longest-first b bs);
+          }

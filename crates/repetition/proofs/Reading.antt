@@ -13,7 +13,8 @@ use lib.Seq.{length-slice}
 use Rattle.repetition.specs.Numbers.{consecutive, those}
 use Rattle.repetition.specs.Cutting.{Part, Class, right, left, cut, is, cut-of}
 use Rattle.repetition.specs.Blocks.{Block, new, starts, block-of, class-blocks}
-use Rattle.repetition.specs.Tables.{around, read-block, greatest-half, left-piece, right-piece}
+use Rattle.repetition.specs.Tables.{left-piece, right-piece}
+use Rattle.repetition.specs.Reading.{around, read-block, greatest-half}
 use Rattle.repetition.proofs.Lists.{is-false, same-test, those-none, those-run, last-run, consecutive-append}
 use Rattle.repetition.proofs.Lists.{flatMap-append, flatMap-each, flatMap-none}
 use Rattle.repetition.proofs.Cutting.{cut-inside}

@@ -2,7 +2,8 @@
 use Prim.Native.Nat.{ℕ, _*_}
 use mathlib.Core.List.{List, [], _∷_, _++_, flatMap}
 use lib.ListN.{length, replicate}
-use Rattle.repetition.specs.Blocks.{list-of}
+use Rattle.repetition.specs.Cutting.{Class, right, left}
+use Rattle.repetition.specs.Blocks.{class-blocks, list-of}
 use Rattle.repetition.specs.Comparisons.{comparisons}
 use Rattle.repetition.specs.Outcomes.{Reply, listing, place}
 use Rattle.repetition.specs.Memory.{numbers}
@@ -15,6 +16,11 @@ pub record Example : Type 0 where
 unfoldable pub blocks : List ℕ → List ℕ
 unfolding list-of flatMap
 blocks t = flatMap numbers (list-of t)
+
+-- the numbers of those of one class across the text's first cut
+unfoldable pub across : Class → List ℕ → List ℕ
+unfolding class-blocks flatMap
+across κ t = flatMap numbers (class-blocks t κ (record { from = 0; to = length t }))
 
 -- a reply: its number, then its values
 abbrev pub reply : Reply → List ℕ
@@ -60,7 +66,7 @@ abbrev row : List ℕ → List ℕ → Example
 row x y = record { computed = x; document = y }
 
 unfoldable pub starred : List Example
-unfolding blocks into comparisons place
+unfolding blocks across into comparisons place
 starred =
     -- the list and its comparisons
     row (blocks []) []
@@ -74,10 +80,14 @@ starred =
     ∷ row (blocks aba) []
     ∷ row (comparisons aba ∷ []) (6 ∷ [])
     ∷ row (blocks abab) (2 ∷ 0 ∷ 0 ∷ [])
+    ∷ row (across right abab) (2 ∷ 0 ∷ 0 ∷ [])
+    ∷ row (across left abab) []
     ∷ row (comparisons abab ∷ []) (10 ∷ [])
     ∷ row (blocks aaaa) (1 ∷ 1 ∷ 1 ∷ 2 ∷ 0 ∷ 0 ∷ 1 ∷ 0 ∷ 0 ∷ 1 ∷ 2 ∷ 2 ∷ [])
     ∷ row (comparisons aaaa ∷ []) (10 ∷ [])
     ∷ row (blocks ababc) (2 ∷ 0 ∷ 0 ∷ [])
+    ∷ row (across right ababc) []
+    ∷ row (across left ababc) (2 ∷ 0 ∷ 0 ∷ [])
     ∷ row (comparisons ababc ∷ []) (17 ∷ [])
     ∷ row (blocks abcabcab) (3 ∷ 1 ∷ 2 ∷ 3 ∷ 0 ∷ 0 ∷ [])
     -- "aaaa" into reports of 11, 12 and 7 numbers: reply, K, C, report

@@ -28,8 +28,8 @@ refusal t work = cond (ltb length-limit (length t)) 1 (cond (ltb (length work) (
 
 pub record Listed : Type 0 where
   pub reply : Reply
-  pub report : List ℕ
   pub work : List ℕ
+  pub report : List ℕ
 
 -- the list of a text that is not refused for its length or its work space: finished, or full
 unfoldable pub listed : List ℕ → List ℕ → List ℕ → Listed
@@ -42,8 +42,8 @@ listed t work report =
             number = cond (leb (length bs) (room report)) 0 3;
             values = length bs ∷ comparisons t ∷ [];
           };
-      report = written bs report;
       work = cleared (length t) work;
+      report = written bs report;
     }
 
 unfoldable pub listing : List ℕ → List ℕ → List ℕ → Listed
@@ -51,7 +51,7 @@ unfolding refusal listed
 listing t work report =
     elim (refusal t work) [
       | zero ↦ listed t work report
-      | suc r ↦ record { reply = refused (suc r); report = report; work = work }
+      | suc r ↦ record { reply = refused (suc r); work = work; report = report }
     ]
 
 -- ---- the place test: yes is 1 and no is 0

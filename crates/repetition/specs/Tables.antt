@@ -1,12 +1,11 @@
--- The match tables of a part, and the blocks that are read from them: document 01, "The four tables of a part".
-use Prim.Native.Nat.{ℕ, suc, _+_, _-_, min}
-use mathlib.Core.Bool.{true, false, cond}
+-- The match tables of a part: document 01, "The four tables of a part".
+use Prim.Native.Nat.{ℕ, suc}
+use mathlib.Core.Bool.{true, false}
 use mathlib.Core.List.{List, [], _∷_, reverse}
-use lib.Dec.{eqb, leb}
-use lib.ListN.{length, drop}
+use lib.Dec.{eqb}
+use lib.ListN.{drop}
 use lib.Seq.{slice}
-use Rattle.repetition.specs.Cutting.{Part, Class, right, left, cut, cut-of}
-use Rattle.repetition.specs.Blocks.{Block}
+use Rattle.repetition.specs.Cutting.{Part, cut-of}
 
 -- the length of the longest common prefix
 unfoldable pub matched : List ℕ → List ℕ → ℕ
@@ -52,28 +51,3 @@ v-back-against-u-back t q = against (reverse (right-piece t q)) (reverse (left-p
 
 abbrev pub u-against-v : List ℕ → Part → Table
 u-against-v t q = against (left-piece t q) (right-piece t q)
-
--- Letters agree with those p places on for `back` places before d and for `on` places from d on.
--- So the starts of half p run from d - back to d + on - p, if there are any.
-unfoldable pub around : ℕ → ℕ → ℕ → ℕ → List Block
-around d p back on =
-    cond (leb p (back + on)) (record { half = p; first = d - back; last = d + on - p } ∷ []) []
-
--- The block of a class and half, read from the first and third table or from the second and fourth.
--- A right repetition ends at most 2p - 1 letters after the cut, a left one starts at most 2p - 1 before it.
-unfoldable pub read-block : List ℕ → Class → Part → ℕ → List Block
-unfolding cut match-at around
-read-block t right q p =
-    around (cut-of q) p
-    (match-at (v-back-against-u-back t q) (length (right-piece t q) - p))
-    (min (p - 1) (match-at (v-itself t q) p))
-read-block t left q p =
-    around (cut-of q - p) p
-    (min (p - 1) (match-at (u-back-itself t q) p))
-    (min (p - 1) (match-at (u-against-v t q) (length (left-piece t q) - p)))
-
--- the greatest half that a class can have in a part: |v|, and |u| - 1
-unfoldable pub greatest-half : List ℕ → Class → Part → ℕ
-unfolding cut
-greatest-half t right q = length (right-piece t q)
-greatest-half t left q = length (left-piece t q) - 1

@@ -9,7 +9,8 @@ use lib.Seq.{getD-append-add, getD-take}
 use Rattle.repetition.specs.Numbers.{consecutive}
 use Rattle.repetition.specs.Tables.{Table, match-at}
 use Rattle.repetition.proofs.Lists.{length-consecutive}
-use Rattle.tables.specs.Walks.{lengths, partly, with-table}
+use Rattle.tables.specs.Walks.{lengths, with-table}
+use Rattle.tables.specs.Progress.{partly}
 
 -- ---- a list with some of its elements replaced
 
@@ -113,13 +114,13 @@ module _ {m : Table} {at : ℕ} {work : List ℕ} (lies : Lies m at work) where
   whole = omega arith
 
   pub length-with-table : length (with-table m at work) ≡ length work
-  unfolding with-table
+  unfolding with-table partly
   length-with-table = length-partly m at (length (m .walked)) work whole (lies .room) (lies .walks)
 
   pub table-entry : (i : ℕ) → m .first ≤ i → i < length (m .walked) → getD (with-table m at work) (at + i) 0 ≡ match-at m i
-  unfolding with-table
+  unfolding with-table partly
   table-entry = partly-entry m at (length (m .walked)) work whole (lies .room) (lies .walks)
 
   pub before-table : (x : ℕ) → x < at + m .first → getD (with-table m at work) x 0 ≡ getD work x 0
-  unfolding with-table
+  unfolding with-table partly
   before-table = partly-before m at (length (m .walked)) work whole (lies .room) (lies .walks)

@@ -16,19 +16,19 @@ use Rattle.tables.specs.declared.look.Looked.{Looked}
 use Rattle.tables.specs.declared.walk.TableAt.{TableAt}
 use Rattle.tables.specs.declared.walk.Stop.{Stop}
 use Rattle.tables.specs.Looks.{looked}
-use Rattle.tables.specs.Walks.{table-of, knowing, up-to, with-entry, partly, with-table, Own, this, earlier}
-use Rattle.tables.specs.Walks.{Filled, Walked, Seeking, Stopped, Further, CanFill}
+use Rattle.tables.specs.Walks.{table-of, knowing, with-entry, with-table, Own, this, earlier, CanFill, Fills}
+use Rattle.tables.specs.Progress.{up-to, partly, Filled, Walked, Seeking, Stopped, Further}
 use Rattle.tables.proofs.Walks.{length-walked, tells, cost-fits, asks, can-read, free-next, stop-there}
 use Rattle.tables.proofs.Walks.{Passed, passed, stop-at-match, stop-at-end}
 use Rattle.tables.proofs.Filled.{partly-none, partly-next}
 
 -- ---- how far a work space has come
 
-pub further-none : (s : List ℕ) (a : TableAt) (i : ℕ) (work : List ℕ) → Further s a i i work work
+pub further-none : (s : List ℕ) (a : TableAt) (i : ℕ) (work : List ℕ) → Further s work a i i work
 further-none s a i work = record { onward = omega arith; as-long = refl; put = λ w long e. e }
 
-pub further-still : {s : List ℕ} {a : TableAt} {i j l : ℕ} {x y z : List ℕ} → Further s a i j x y → Further s a j l y z
-    → Further s a i l x z
+pub further-still : {s : List ℕ} {a : TableAt} {i j l : ℕ} {x y z : List ℕ} → Further s x a i j y → Further s y a j l z
+    → Further s x a i l z
 further-still g h =
     record {
       onward = omega (arith, g .onward, h .onward);
@@ -76,7 +76,7 @@ module _ (s work : List ℕ) (a : TableAt) (i : ℕ) (f : Filled s work a i) (l 
             ];
       }
 
-  further-next : {m : ℕ} {before : List ℕ} → Further s a m i before work → Further s a m (i + 1) before work′
+  further-next : {m : ℕ} {work₀ : List ℕ} → Further s work₀ a m i work → Further s work₀ a m (i + 1) work′
   further-next g =
       let walked = length-walked s a (f .placed .pieces) in
       record {
@@ -127,8 +127,8 @@ module _ (s work : List ℕ) (a : TableAt) (i cost : ℕ) (k : Seeking s work a 
               so-far = rw (told, k .so-far) (ap (λ (w : Walk). w .cost) (pass .walk));
             }
 
-        pub seek-further : {m : ℕ} {before : List ℕ} → Further s a m i before work
-            → Further s a m (i + 1) before (set work (a .at + i) 0)
+        pub seek-further : {m : ℕ} {work₀ : List ℕ} → Further s work₀ a m i work
+            → Further s work₀ a m (i + 1) (set work (a .at + i) 0)
         seek-further g = further-next s work a i (k .filled) l (pass .match) refl g
 
 -- ---- a walk whose record reaches position i
@@ -166,8 +166,8 @@ module _ (s work : List ℕ) (a : TableAt) (i : ℕ) (w : Walk) (k : Walked s wo
         free-walked =
             record { filled = filled-next s work a i (k .filled) follow-inside (free-one .0) refl; walk = free-one .1 }
 
-        pub free-further : {m : ℕ} {before : List ℕ} → Further s a m i before work
-            → Further s a m (i + 1) before (set work (a .at + i) len)
+        pub free-further : {m : ℕ} {work₀ : List ℕ} → Further s work₀ a m i work
+            → Further s work₀ a m (i + 1) (set work (a .at + i) len)
         free-further g = further-next s work a i (k .filled) follow-inside (free-one .0) refl g
 
       -- it takes a scan
@@ -186,23 +186,14 @@ module _ (s work : List ℕ) (a : TableAt) (at : Stop) (stopped : Stopped s work
         walk = e ∙ stopped .scans l;
       }
 
-  pub scan-further : {m : ℕ} {before : List ℕ} → Further s a m (at .i) before work → Further s a m (at .i + 1) before work′
+  pub scan-further : {m : ℕ} {work₀ : List ℕ} → Further s work₀ a m (at .i) work → Further s work₀ a m (at .i + 1) work′
   scan-further g = further-next s work a (at .i) (stopped .filled) l refl put g
 
 -- ---- the whole walk
 
--- what the filling of a table promises
-abbrev pub Fills : List ℕ → TableAt → ℕ → List ℕ → ℕ → List ℕ → Type 0
-Fills s a count work n w = (n ≡ count + table-cost (table-of s a)) × (w ≡ with-table (table-of s a) (a .at) work)
-
-pub fills-same : (s : List ℕ) (count : ℕ) (work : List ℕ) {a b : TableAt} {n : ℕ} {w : List ℕ} → a ≡ b
-    → Fills s a count work n w → Fills s b count work n w
-fills-same s count work e f = rw e at f
-
--- What the walk over a table leaves: what it has cost, and the work space.
-pub record Filling (s work : List ℕ) (a : TableAt) (cost : ℕ) (work-left : List ℕ) : Type 0 where
-  pub costs : cost ≡ table-cost (table-of s a)
-  pub fills : work-left ≡ with-table (table-of s a) (a .at) work
+pub fills-same : (s work : List ℕ) (count : ℕ) {a b : TableAt} {n : ℕ} {w : List ℕ} → a ≡ b → Fills s work a count n w
+    → Fills s work b count n w
+fills-same s work count e f = rw e at f
 
 module _ (s work₀ : List ℕ) (a : TableAt) (count : ℕ) (can : CanFill s work₀ a count) where
   pub fill-starts : Walked s work₀ a (a .first) start
@@ -220,17 +211,21 @@ module _ (s work₀ : List ℕ) (a : TableAt) (count : ℕ) (can : CanFill s wor
         walk = ap (after (table-of s a)) {x = 0} {y = a .first - a .first} (omega arith);
       }
 
-  module _ (work : List ℕ) (at : Stop) (g : Further s a (a .first) (at .i) work₀ work) (stopped : Stopped s work a at)
+  module _ (work : List ℕ) (at : Stop) (g : Further s work₀ a (a .first) (at .i) work) (stopped : Stopped s work a at)
       (end : a .walked .size ≤ at .i) where
     whole : at .i ≡ length (table-of s a .walked)
     whole = omega (arith, length-walked s a (can .placed .pieces), stopped .filled .inside)
 
-    pub fill-ends : Filling s work₀ a (at .cost) work
-    unfolding with-table table-cost
+    costs : at .cost ≡ table-cost (table-of s a)
+    unfolding table-cost
+    costs = stopped .ended end ∙ ap (λ (i : ℕ). up-to (table-of s a) i .cost) whole
+
+    pub fill-ends : Fills s work₀ a count (count + at .cost) work
+    unfolding with-table partly
     fill-ends =
         record {
-          costs = stopped .ended end ∙ ap (λ (i : ℕ). up-to (table-of s a) i .cost) whole;
-          fills =
+          counts = ap (λ (n : ℕ). count + n) costs;
+          leaves-work =
               g .put work₀ refl (partly-none (table-of s a) (a .at) (a .first) work₀ (omega arith))
               ∙ ap (λ (i : ℕ). partly (table-of s a) (a .at) i work₀) whole;
         }
@@ -240,17 +235,18 @@ module _ (s work₀ : List ℕ) (a : TableAt) (count : ℕ) (can : CanFill s wor
         let walked = length-walked s a (can .placed .pieces) in
         omega (
           arith,
-          fill-ends .costs,
+          costs,
           can .fits,
           table-cost-bound (table-of s a) (omega (arith, can .placed .pieces)),
         )
 
   -- A table without a position is filled as it stands.
-  pub fills-none : a .walked .size ≤ a .first → Filling s work₀ a 0 work₀
-  unfolding with-table table-cost after
+  pub fills-none : a .walked .size ≤ a .first → Fills s work₀ a count count work₀
+  unfolding with-table partly table-cost after
   fills-none none =
       let walked = length-walked s a (can .placed .pieces) in
+      let no-cost = ap (λ (n : ℕ). after (table-of s a) n .cost) {x = 0} {y = length (table-of s a .walked) - a .first} (omega arith) in
       record {
-        costs = ap (λ (n : ℕ). after (table-of s a) n .cost) {x = 0} {y = length (table-of s a .walked) - a .first} (omega arith);
-        fills = partly-none (table-of s a) (a .at) (length (table-of s a .walked)) work₀ (omega arith);
+        counts = omega (arith, no-cost);
+        leaves-work = partly-none (table-of s a) (a .at) (length (table-of s a .walked)) work₀ (omega arith);
       }

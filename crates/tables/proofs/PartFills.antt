@@ -6,17 +6,18 @@ use native.Mathlib.Nat.{zero-add}
 use native.Mathlib.Omega.{arith}
 use lib.ListN.{length}
 use Rattle.repetition.specs.Cutting.{Part, cut-of}
-use Rattle.repetition.specs.Tables.{itself, against, left-piece, right-piece, v-itself, u-back-itself, v-back-against-u-back, u-against-v}
+use Rattle.repetition.specs.Tables.{Table, itself, against, left-piece, right-piece, v-itself, u-back-itself, v-back-against-u-back, u-against-v}
 use Rattle.repetition.specs.Comparisons.{table-cost, part-comparisons}
 use Rattle.repetition.proofs.Walking.{table-cost-bound}
 use Rattle.tables.specs.declared.CutPart.{CutPart}
 use Rattle.tables.specs.declared.walk.Piece.{Piece}
 use Rattle.tables.specs.declared.walk.TableAt.{TableAt}
 use Rattle.tables.specs.Letters.{both-ways, text-of, BothWays, read, backward-at}
-use Rattle.tables.specs.Walks.{itself-at, against-at, table-of, with-table, this, earlier, CanFill}
+use Rattle.tables.specs.Walks.{itself-at, against-at, table-of, with-table, this, earlier, CanFill, Fills}
 use Rattle.tables.specs.Parts.{whole, IsCut, letters, letters-v, with-tables, CanFillPart}
+use Rattle.tables.specs.Promises.{TablesPromise}
 use Rattle.tables.proofs.Letters.{length-both, read-forward, read-backward}
-use Rattle.tables.proofs.Fills.{Fills, fills-same}
+use Rattle.tables.proofs.Fills.{fills-same}
 use Rattle.tables.proofs.Parts.{after-1, after-2, after-3, Sizes, sizes, length-1, length-2, length-3}
 use Rattle.tables.proofs.Parts.{u-back-stands, v-stands}
 
@@ -139,6 +140,14 @@ module _ (t s work : List ℕ) (q : Part) (count : ℕ) (lent : s ≡ both-ways 
 
 -- ---- the four fillings, one after the other, as the code lays the tables
 
+-- a filling of the table m, whose letters are s
+filled-as : {s work work-left : List ℕ} {a : TableAt} {m : Table} {count n : ℕ} → table-of s a ≡ m
+    → Fills s work a count n work-left → (n ≡ count + table-cost m) × (work-left ≡ with-table m (a .at) work)
+filled-as {work = work} {a = a} {count = count} e f = (
+  f .counts ∙ ap (λ (x : Table). count + table-cost x) e,
+  f .leaves-work ∙ ap (λ (x : Table). with-table x (a .at) work) e,
+)
+
 -- The pieces have their letters one after the other, and lie in the letters.
 pub record Lying (s : List ℕ) (q : CutPart) : Type 0 where
   pub u-ordered : q .from ≤ q .cut
@@ -174,19 +183,19 @@ module _ (s work : List ℕ) (q : CutPart) (count : ℕ) (both : BothWays s) (cu
     pub fill-1 : CanFill s work (itself-at (code-v q) 0) count
     fill-1 = rw first-laid (can-fill-1 t s work (whole q) count both can)
 
-    module _ {n₁ : ℕ} {w₁ : List ℕ} (f₁ : Fills s (itself-at (code-v q) 0) count work n₁ w₁) where
+    module _ {n₁ : ℕ} {w₁ : List ℕ} (f₁ : Fills s work (itself-at (code-v q) 0) count n₁ w₁) where
       left-1 : (n₁ ≡ count + cost-1 t (whole q)) × (w₁ ≡ after-1 t (whole q) work)
-      left-1 = rw (first-is t s work (whole q) count both can) at (fills-same s count work first-laid f₁)
+      left-1 = filled-as (first-is t s work (whole q) count both can) (fills-same s work count first-laid f₁)
 
       pub fill-2 : CanFill s w₁ (itself-at u-back (q .to - q .cut)) n₁
       fill-2 = rw second-laid (can-fill-2 t s work (whole q) count both can left-1)
 
-      module _ {n₂ : ℕ} {w₂ : List ℕ} (f₂ : Fills s (itself-at u-back (q .to - q .cut)) n₁ w₁ n₂ w₂) {a₃ : TableAt}
+      module _ {n₂ : ℕ} {w₂ : List ℕ} (f₂ : Fills s w₁ (itself-at u-back (q .to - q .cut)) n₁ n₂ w₂) {a₃ : TableAt}
           (e₃ : a₃ ≡ against-at v-back u-back (q .to - q .cut) (q .cut - q .from + (q .to - q .cut))) where
         left-2 : (n₂ ≡ count + cost-2 t (whole q)) × (w₂ ≡ after-2 t (whole q) work)
         left-2 =
             let l = left-1 in
-            let g = rw (second-is t s work (whole q) count both can, l .1) at (fills-same s n₁ w₁ second-laid f₂) in
+            let g = rw (l .1) at (filled-as (second-is t s work (whole q) count both can) (fills-same s w₁ n₁ second-laid f₂)) in
             (omega arith, g .1)
 
         third-laid : a₃ ≡ third-at s (whole q)
@@ -195,12 +204,12 @@ module _ (s work : List ℕ) (q : CutPart) (count : ℕ) (both : BothWays s) (cu
         pub fill-3 : CanFill s w₂ a₃ n₂
         fill-3 = rw third-laid (can-fill-3 t s work (whole q) count both can left-2)
 
-        module _ {n₃ : ℕ} {w₃ : List ℕ} (f₃ : Fills s a₃ n₂ w₂ n₃ w₃) {a₄ : TableAt}
+        module _ {n₃ : ℕ} {w₃ : List ℕ} (f₃ : Fills s w₂ a₃ n₂ n₃ w₃) {a₄ : TableAt}
             (e₄ : a₄ ≡ against-at (code-u q) (code-v q) 0 (q .cut - q .from + (q .to - q .cut) + (q .to - q .cut))) where
           left-3 : (n₃ ≡ count + cost-3 t (whole q)) × (w₃ ≡ after-3 t (whole q) work)
           left-3 =
               let l = left-2 in
-              let g = rw (third-laid, third-is t s work (whole q) count both can, l .1) at f₃ in
+              let g = rw (l .1) at (filled-as (third-is t s work (whole q) count both can) (fills-same s w₂ n₂ third-laid f₃)) in
               (omega arith, g .1)
 
           fourth-laid : a₄ ≡ fourth-at (whole q)
@@ -209,14 +218,14 @@ module _ (s work : List ℕ) (q : CutPart) (count : ℕ) (both : BothWays s) (cu
           pub fill-4 : CanFill s w₃ a₄ n₃
           fill-4 = rw fourth-laid (can-fill-4 t s work (whole q) count both can left-3)
 
-          module _ {n₄ : ℕ} {w₄ : List ℕ} (f₄ : Fills s a₄ n₃ w₃ n₄ w₄) where
+          module _ {n₄ : ℕ} {w₄ : List ℕ} (f₄ : Fills s w₃ a₄ n₃ n₄ w₄) where
             left-4 : (n₄ ≡ count + cost-3 t (whole q) + table-cost (u-against-v t (whole q)))
                 × (w₄ ≡ with-table (u-against-v t (whole q)) (letters (whole q) + letters-v (whole q)) (after-3 t (whole q) work))
             left-4 =
                 let l = left-3 in
-                let g = rw (fourth-laid, fourth-is t s work (whole q) count both can, l .1) at f₄ in
+                let g = rw (l .1) at (filled-as (fourth-is t s work (whole q) count both can) (fills-same s w₃ n₃ fourth-laid f₄)) in
                 (omega arith, g .1)
 
-            pub four-filled : (n₄ ≡ count + part-comparisons t (whole q)) × (w₄ ≡ with-tables t (whole q) work)
+            pub four-filled : TablesPromise t work (whole q) count n₄ w₄
             unfolding part-comparisons with-tables
-            four-filled = (omega (arith, left-4 .0), left-4 .1)
+            four-filled = record { counts = omega (arith, left-4 .0); leaves-work = left-4 .1 }

@@ -22,8 +22,8 @@ use Rattle.tables.specs.declared.walk.Piece.{Piece}
 use Rattle.tables.specs.declared.walk.TableAt.{TableAt}
 use Rattle.tables.specs.Letters.{read}
 use Rattle.tables.specs.Looks.{looked, common, scan-of, CanScan}
-use Rattle.tables.specs.Walks.{table-of, knowing, up-to, room-of, InLetters, CanScanAt, Stands, Own, this, earlier}
-use Rattle.tables.specs.Walks.{Filled, Stopped}
+use Rattle.tables.specs.Walks.{table-of, knowing, room-of, InLetters, CanScanAt, Stands, Own, this, earlier}
+use Rattle.tables.specs.Progress.{up-to, Filled, Stopped}
 use Rattle.tables.proofs.Letters.{length-read}
 use Rattle.tables.proofs.Scans.{first-same, match-common}
 

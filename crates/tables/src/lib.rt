@@ -6,16 +6,15 @@ mod walk;
 use crate::walk::Piece;
 ghost use mathlib.Core.Path.{_≡_};
 ghost use Prim.Native.Nat.{_+_, _≤_};
-ghost use Rattle.repetition.specs.Cutting.{cut};
-ghost use Rattle.repetition.specs.Comparisons.{part-comparisons};
 ghost use Rattle.repetition.specs.Limits.{length-limit};
 ghost use Rattle.tables.specs.Letters.{text-of, BothWays, backward-at};
-ghost use Rattle.tables.specs.Parts.{whole, with-tables, IsCut, CanFillPart};
+ghost use Rattle.tables.specs.Parts.{whole, IsCut, CanFillPart};
+ghost use Rattle.tables.specs.Promises.{CutPromise, TablesPromise};
 
 // Where a part is cut.
 pub fn cut_at(from: usize, to: usize) -> usize
     requires { ⌜ (from ≤ to) × (to ≤ length-limit) ⌝ }
-    ensures { λ r. ⌜ r ≡ cut from to ⌝ }
+    ensures { λ r. ⌜ CutPromise from to r ⌝ }
 {
     from + (to - from + 1) / 2
 }
@@ -41,8 +40,7 @@ fn backward(piece: Piece, end: usize) -> Piece
 // Fills the four tables of a part, in document 01's order. The count of comparisons is raised by the part's.
 pub fn fill_tables(letters: &[u16], work: &mut [u16], part: CutPart, count: u32) -> u32
     requires { ⌜ BothWays (now letters) × IsCut part × CanFillPart (text-of (now letters)) (now work) (whole part) count ⌝ }
-    ensures { λ r. ⌜ r ≡ count + part-comparisons (text-of (now (letters .entry))) (whole part) ⌝ }
-    ensures { λ _. ⌜ now (work .exit) ≡ with-tables (text-of (now (letters .entry))) (whole part) (now (work .entry)) ⌝ }
+    ensures { λ r. ⌜ TablesPromise (text-of (now (letters .entry))) (now (work .entry)) (whole part) count r (now (work .exit)) ⌝ }
 {
     let letters_u = part.cut - part.from;
     let letters_v = part.to - part.cut;

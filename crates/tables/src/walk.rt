@@ -3,9 +3,10 @@ use crate::look;
 ghost use mathlib.Core.Path.{_≡_};
 ghost use Prim.Native.Nat.{_+_, _-_, _<_, _≤_};
 ghost use lib.ListN.{length, getD};
-ghost use Rattle.repetition.specs.Comparisons.{scanned, table-cost};
-ghost use Rattle.tables.specs.Walks.{itself-at, against-at, table-of, walk-of, knowing, with-entry, with-table};
-ghost use Rattle.tables.specs.Walks.{room-of, CanScanAt, Walked, Seeking, Stopped, Further, CanFill};
+ghost use Rattle.repetition.specs.Comparisons.{scanned};
+ghost use Rattle.tables.specs.Walks.{itself-at, against-at, table-of, walk-of, knowing, room-of, with-entry};
+ghost use Rattle.tables.specs.Walks.{CanScanAt, CanFill, Fills};
+ghost use Rattle.tables.specs.Progress.{Walked, Seeking, GoesOn};
 
 // So many letters from a place on.
 pub struct Piece {
@@ -110,8 +111,7 @@ fn scan_at(
 // one look.
 fn seek(letters: &[u16], work: &mut [u16], table: TableAt, i: usize, cost: u32) -> Stop
     requires { ⌜ Seeking (now letters) (now work) table i cost ⌝ }
-    ensures { λ r. ⌜ Stopped (now (letters .entry)) (now (work .exit)) table r ⌝ }
-    ensures { λ r. ⌜ Further (now (letters .entry)) table i (r .i) (now (work .entry)) (now (work .exit)) ⌝ }
+    ensures { λ r. ⌜ GoesOn (now (letters .entry)) (now (work .entry)) table i r (now (work .exit)) ⌝ }
 {
     let mut looks = cost;
     let mut on = i;
@@ -148,8 +148,7 @@ fn own_length(work: &[u16], own: usize, i: usize, k: usize) -> usize
 // looks.
 fn follow(letters: &[u16], work: &mut [u16], table: TableAt, i: usize, walk: Walk) -> Stop
     requires { ⌜ Walked (now letters) (now work) table i (walk-of walk) ⌝ }
-    ensures { λ r. ⌜ Stopped (now (letters .entry)) (now (work .exit)) table r ⌝ }
-    ensures { λ r. ⌜ Further (now (letters .entry)) table i (r .i) (now (work .entry)) (now (work .exit)) ⌝ }
+    ensures { λ r. ⌜ GoesOn (now (letters .entry)) (now (work .entry)) table i r (now (work .exit)) ⌝ }
 {
     let k = walk.k;
     let e = walk.e;
@@ -171,8 +170,7 @@ fn follow(letters: &[u16], work: &mut [u16], table: TableAt, i: usize, walk: Wal
 // Fills a table. The count of comparisons is raised by what the walk costs.
 pub fn fill(letters: &[u16], work: &mut [u16], table: TableAt, count: u32) -> u32
     requires { ⌜ CanFill (now letters) (now work) table count ⌝ }
-    ensures { λ r. ⌜ r ≡ count + table-cost (table-of (now (letters .entry)) table) ⌝ }
-    ensures { λ _. ⌜ now (work .exit) ≡ with-table (table-of (now (letters .entry)) table) (table .at) (now (work .entry)) ⌝ }
+    ensures { λ r. ⌜ Fills (now (letters .entry)) (now (work .entry)) table count r (now (work .exit)) ⌝ }
 {
     let size = table.walked.size;
     let mut walk = Walk {
@@ -196,8 +194,7 @@ pub fn fill(letters: &[u16], work: &mut [u16], table: TableAt, count: u32) -> u3
 // Fills the table of a piece against itself. That of one letter has no position, which is seen before a walk is begun.
 pub fn fill_itself(letters: &[u16], work: &mut [u16], piece: Piece, at: usize, count: u32) -> u32
     requires { ⌜ CanFill (now letters) (now work) (itself-at piece at) count ⌝ }
-    ensures { λ r. ⌜ r ≡ count + table-cost (table-of (now (letters .entry)) (itself-at piece at)) ⌝ }
-    ensures { λ _. ⌜ now (work .exit) ≡ with-table (table-of (now (letters .entry)) (itself-at piece at)) at (now (work .entry)) ⌝ }
+    ensures { λ r. ⌜ Fills (now (letters .entry)) (now (work .entry)) (itself-at piece at) count r (now (work .exit)) ⌝ }
 {
     if piece.size < 2 {
         return count;

@@ -7,7 +7,7 @@ use Rattle.tables.proofs.cut_at.Tie as tie
 
 returns : tie.Need-returns
 unfolding cut
-returns c = refl
+returns c = record { cuts = refl }
 
 pub cut-at-spec : {M : Type 1} → statement M
 cut-at-spec = tie.close (tie.spec (λ c. search needs) (λ c. search needs) (λ c. search needs) returns)

@@ -87,7 +87,7 @@ returns c =
 same-length : tie.Need-same-length
 same-length c =
     let s = start-of (pieces-of (one-of (two-of (three-of (c .before .before))))) in
-    ap length (returns c .1) ∙ length-with-tables _ _ _ (s .pre .2 .placed)
+    ap length (returns c .leaves-work) ∙ length-with-tables _ _ _ (s .pre .2 .placed)
 
 pub fill-tables-spec : {M : Type 1} → statement M
 fill-tables-spec =

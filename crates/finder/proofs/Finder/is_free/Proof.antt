@@ -5,20 +5,20 @@ use Rattle.finder.proofs.Entries.{freedom-of, free-promise}
 use Rattle.finder.proofs.Finder.is_free.Statement.{statement}
 use Rattle.finder.proofs.Finder.is_free.Tie as tie
 
-abbrev longest-of : tie.After-slice-known2 → tie.After-longest
-longest-of c = c .before .before
+abbrev asked-of : tie.After-slice-known2 → tie.After-longest
+asked-of c = c .before .before
 
 returns : tie.Need-returns
-returns c = free-promise _ _ (sym (ap freedom-of (c .enum-told .given .1))) (longest-of (c .before .before) .longest .ensures)
+returns c = free-promise _ _ (sym (ap freedom-of (c .enum-told .given .1))) (asked-of (c .before .before) .longest .ensures)
 
 returns-2 : tie.Need-returns-2
-returns-2 c = free-promise _ _ (sym (ap freedom-of (c .enum-told2 .given .1))) (longest-of (c .before .before) .longest .ensures)
+returns-2 c = free-promise _ _ (sym (ap freedom-of (c .enum-told2 .given .1))) (asked-of (c .before .before) .longest .ensures)
 
 returns-3 : tie.Need-returns-3
-returns-3 c = free-promise _ _ (sym (ap freedom-of (c .enum-told3 .given .1))) (longest-of (c .before .before) .longest .ensures)
+returns-3 c = free-promise _ _ (sym (ap freedom-of (c .enum-told3 .given .1))) (asked-of (c .before .before) .longest .ensures)
 
 returns-4 : tie.Need-returns-4
-returns-4 c = free-promise _ _ (sym (ap freedom-of (c .enum-told4 .given .1))) (longest-of (c .before .before) .longest .ensures)
+returns-4 c = free-promise _ _ (sym (ap freedom-of (c .enum-told4 .given .1))) (asked-of (c .before .before) .longest .ensures)
 
 pub is-free-spec : {M : Type 1} → statement M
 is-free-spec =

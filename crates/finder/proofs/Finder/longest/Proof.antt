@@ -1,7 +1,7 @@
 -- `finder::Finder::longest` meets its contract. Assumes nothing.
 use mathlib.Core.Path.{sym, ap}
 use borrow.Author.Needs.{needs}
-use Rattle.finder.proofs.Entries.{longest-of, nothing-when, found-when, longest-promise}
+use Rattle.finder.proofs.Entries.{longest-answered, nothing-when, found-when, longest-promise}
 use Rattle.finder.proofs.Finder.longest.Statement.{statement}
 use Rattle.finder.proofs.Finder.longest.Tie as tie
 
@@ -9,11 +9,11 @@ abbrev search-of : tie.After-no-report2 → tie.After-search
 search-of c = c .before .before .before
 
 returns : tie.Need-returns
-returns c = longest-promise _ _ _ (sym (ap longest-of (c .enum-told .given .1))) (search-of (c .before .before) .search .ensures)
+returns c = longest-promise _ _ _ (sym (ap longest-answered (c .enum-told .given .1))) (search-of (c .before .before) .search .ensures)
 
 returns-2 : tie.Need-returns-2
 returns-2 c =
-    longest-promise _ _ _ (sym (ap longest-of (c .enum-told2 .given .1))) (search-of (c .before .before) .search .ensures)
+    longest-promise _ _ _ (sym (ap longest-answered (c .enum-told2 .given .1))) (search-of (c .before .before) .search .ensures)
 
 returns-3 : tie.Need-returns-3
 returns-3 c =

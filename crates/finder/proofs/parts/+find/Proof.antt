@@ -1,16 +1,15 @@
 -- The proof of the cycle of calls {find}. The measure is the part's length. Assumes nothing.
 use Prim.Native.Nat.{ℕ, _-_, _<_}
-use mathlib.Core.Path.{_≡_, sym, ap, _∙_}
+use mathlib.Core.Path.{ap, _∙_}
 use native.Mathlib.Omega.{arith}
 use borrow.Fn.Kinds.{In}
 use borrow.Fn.PlainCycle.{Measures, is, falls, and}
 use lib.ListN.{length}
 use Rattle.repetition.specs.Cutting.{parts}
 use Rattle.tables.specs.Letters.{text-of}
-use Rattle.finder.specs.Kept.{kept, found-all}
-use Rattle.finder.specs.Finding.{tables-left}
-use Rattle.finder.proofs.Finds.{none-over, length-left, report-kept, can-part, can-left, can-right}
-use Rattle.finder.proofs.Finds.{all-found, all-tables, pieces-fall}
+use Rattle.finder.specs.Finding.{Finds}
+use Rattle.finder.proofs.Finds.{none-found, length-left, report-kept, can-part, can-left, can-right}
+use Rattle.finder.proofs.Finds.{all-found, pieces-fall}
 use Rattle.finder.proofs.parts.find.Reads as find
 use Rattle.finder.proofs.parts.find.Kinds as find-kinds
 use Rattle.finder.proofs.parts.+find.Lts-find as find-lts
@@ -60,8 +59,8 @@ module _ (m : ℕ) where
   abbrev start-of : Cut → Start
   start-of c = c .before .before .before .before .before
 
-  abbrev cut-of : Here → Cut
-  cut-of c = c .before .before .before
+  abbrev cutting-of : Here → Cut
+  cutting-of c = c .before .before .before
 
   abbrev here-of : Left → Here
   here-of c = c .before .before .before .before .before .before .before
@@ -73,7 +72,7 @@ module _ (m : ℕ) where
   sub-if1 c = c .before .before .before .pre .1 .1 .ordered
 
   returns : find-lts.Need-returns calls (find-at m) find.Post
-  returns c = (sym (none-over _ _ _ _ (c .if1 .taken)), sym (none-over _ _ _ _ (c .if1 .taken)))
+  returns c = none-found _ _ (c .if1 .taken)
 
   cut-at-requires : find-lts.Need-cut-at-requires calls (find-at m) find.Post
   cut-at-requires c κs =
@@ -84,18 +83,17 @@ module _ (m : ℕ) where
   find-part-requires c κs =
       let cut = c .before .before in
       let s = start-of cut in
-      (s .pre .1 .0, cut .cut-at .ensures, can-part _ _ _ _ _ (s .pre .1 .1) (cut .before .if1 .left))
+      (s .pre .1 .0, cut .cut-at .ensures .cuts, can-part _ _ _ _ _ (s .pre .1 .1) (cut .before .if1 .left))
 
   find-requires : find-lts.Need-find-requires calls (find-at m) find.Post
   find-requires c κs =
       let here = c .before .before .before .before .before .before in
-      let cut = cut-of here in
+      let cut = cutting-of here in
       let s = start-of cut in (
-        rw (s .pre .0) at (pieces-fall _ _ (cut .cut-at .ensures) (cut .before .if1 .left) .0),
+        rw (s .pre .0) at (pieces-fall _ _ (cut .cut-at .ensures .cuts) (cut .before .if1 .left) .0),
         (
           s .pre .1 .0,
-          can-left _ _ _ _ _ (s .pre .1 .1) (cut .before .if1 .left) _ (cut .cut-at .ensures) (here .find-part .ensures .1)
-              (here .find-part .ensures .0),
+          can-left _ _ _ _ _ (s .pre .1 .1) (cut .before .if1 .left) (cut .cut-at .ensures .cuts) (here .find-part .ensures),
         ),
       )
 
@@ -103,45 +101,36 @@ module _ (m : ℕ) where
   find-requires-2 c κs =
       let left = c .before .before .before .before .before .before in
       let here = here-of left in
-      let cut = cut-of here in
+      let cut = cutting-of here in
       let s = start-of cut in (
-        rw (s .pre .0) at (pieces-fall _ _ (cut .cut-at .ensures) (cut .before .if1 .left) .1),
+        rw (s .pre .0) at (pieces-fall _ _ (cut .cut-at .ensures .cuts) (cut .before .if1 .left) .1),
         (
           s .pre .1 .0,
-          can-right _ _ _ _ _ (s .pre .1 .1) (cut .before .if1 .left) _ (cut .cut-at .ensures) (here .find-part .ensures .1)
-              (here .find-part .ensures .0) (left .find .ensures .1) (left .find .ensures .0),
+          can-right _ _ _ _ _ (s .pre .1 .1) (cut .before .if1 .left) (cut .cut-at .ensures .cuts) (here .find-part .ensures)
+              (left .find .ensures),
         ),
       )
 
   whole : (c : Right)
-      → let s = start-of (cut-of (here-of (left-of c))) .args in
-      let t = text-of (s .letters .now) in
-      let qs = parts (s .part .from) (s .part .to) in
-      (kept (c .find2 .last .1 .1 .0) (c .find2 .result) ≡ found-all t (kept (s .report .now) (s .tally)) qs)
-      × (c .find2 .last .1 .0 ≡ tables-left t (s .work .now) qs)
+      → let s = start-of (cutting-of (here-of (left-of c))) .args in
+      Finds (text-of (s .letters .now)) (s .work .now) (s .report .now) (parts (s .part .from) (s .part .to)) (s .tally)
+      (c .find2 .result) (c .find2 .last .1 .0) (c .find2 .last .1 .1 .0)
   whole c =
       let left = left-of c in
       let here = here-of left in
-      let cut = cut-of here in
-      let s = start-of cut in (
-        all-found _ _ _ _ _ (s .pre .1 .1) (cut .before .if1 .left) _ (cut .cut-at .ensures) (here .find-part .ensures .1)
-            (here .find-part .ensures .0) (left .find .ensures .1) (left .find .ensures .0) (c .find2 .ensures .0),
-        all-tables _ _ _ _ _ (s .pre .1 .1) (cut .before .if1 .left) _ (cut .cut-at .ensures) (here .find-part .ensures .1)
-            (here .find-part .ensures .0) (left .find .ensures .1) (left .find .ensures .0) (c .find2 .ensures .1),
-      )
+      let cut = cutting-of here in
+      let s = start-of cut in
+      all-found _ _ _ _ _ (s .pre .1 .1) (cut .before .if1 .left) (cut .cut-at .ensures .cuts) (here .find-part .ensures)
+      (left .find .ensures) (c .find2 .ensures)
 
   same-length : find-lts.Need-same-length calls (find-at m) find.Post
   same-length c =
       let right = c .before .before .before .before in
-      let s = start-of (cut-of (here-of (left-of right))) in
-      ap length (whole right .1) ∙ length-left _ _ _ _ _ (s .pre .1 .1)
+      let s = start-of (cutting-of (here-of (left-of right))) in
+      ap length (whole right .leaves-work) ∙ length-left _ _ _ _ _ (s .pre .1 .1)
 
   same-length-2 : find-lts.Need-same-length-2 calls (find-at m) find.Post
-  same-length-2 c =
-      let right = c .before .before .before .before in
-      let s = start-of (cut-of (here-of (left-of right))) .args in
-      report-kept (text-of (s .letters .now)) (parts (s .part .from) (s .part .to)) (s .report .now) _ (s .tally) _
-      (whole right .0)
+  same-length-2 c = report-kept (whole (c .before .before .before .before))
 
   returns-2 : find-lts.Need-returns-2 calls (find-at m) find.Post
   returns-2 c = whole (c .before .before .before .before)

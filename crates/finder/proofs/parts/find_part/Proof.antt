@@ -24,25 +24,23 @@ put-class-requires : tie.Need-put-class-requires
 put-class-requires c κs =
     let p = start-of (filled-of c) .pre in
     let filled = filled-of c .fill-tables .ensures in
-    can-right _ _ _ _ (p .2) (p .1) (filled .1) (filled .0) (c .compared .ensures)
+    can-right _ _ _ _ (p .2) (p .1) filled (c .compared .ensures)
 
 put-class-requires-2 : tie.Need-put-class-requires-2
 put-class-requires-2 c κs =
     let d = rights-of c .before in
     let p = start-of (filled-of d) .pre in
     let filled = filled-of d .fill-tables .ensures in
-    can-left _ _ _ _ (p .2) (p .1) (filled .1) (filled .0) (d .compared .ensures) _ (rights-of c .put-class .ensures)
+    can-left _ _ _ _ (p .2) (p .1) filled (d .compared .ensures) _ (rights-of c .put-class .ensures)
 
 returns : tie.Need-returns
 returns c =
     let e = c .before .before .before in
     let d = rights-of e .before in
     let p = start-of (filled-of d) .pre in
-    let filled = filled-of d .fill-tables .ensures in (
-      part-found _ _ _ _ (p .2) (p .1) (filled .1) (filled .0) (d .compared .ensures) _ (rights-of e .put-class .ensures)
-          (c .before .before .put-class2 .ensures),
-      filled .1,
-    )
+    let filled = filled-of d .fill-tables .ensures in
+    part-found _ _ _ _ (p .2) (p .1) filled (d .compared .ensures) _ (rights-of e .put-class .ensures)
+    (c .before .before .put-class2 .ensures)
 
 pub find-part-spec : {M : Type 1} → statement M
 find-part-spec =

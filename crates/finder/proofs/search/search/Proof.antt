@@ -21,8 +21,8 @@ search-whole-requires c κs = can-search _ _ (c .before .before .before .if1 .le
 returns-3 : tie.Need-returns-3
 returns-3 c =
     let d = c .before .before .before .before in
-    let e = d .search-whole .ensures in
-    searched-found _ _ _ (d .before .before .before .before .if1 .left) (d .before .before .before .if2 .left) (e .0) (e .1)
+    searched-found _ _ _ (d .before .before .before .before .if1 .left) (d .before .before .before .if2 .left)
+    (d .search-whole .ensures)
 
 pub search-spec : {M : Type 1} → statement M
 search-spec =

@@ -35,8 +35,11 @@ returns c =
     let s = start-of w in
     let lent = w .write-letters .ensures in
     let same : length (d .find .last .1 .0) ≡ length (s .args .work .now) = search needs in (
-      found-lent _ lent _ (d .find .ensures .0) (d .before .none .ensures),
-      (c .before .before .clear .ensures ∙ ap (λ (n : ℕ). replicate n 0) same, letters-over _ lent _),
+      record {
+        keeps = found-lent _ lent _ (d .find .ensures .keeps) (d .before .none .ensures);
+        leaves-work = c .before .before .clear .ensures ∙ ap (λ (n : ℕ). replicate n 0) same;
+      },
+      letters-over _ lent _,
     )
 
 pub search-letters-spec : {M : Type 1} → statement M

@@ -2,7 +2,8 @@
 -- The measure is the positions left. Assumes nothing.
 use Prim.Native.Nat.{_-_, _<_}
 use native.Mathlib.Omega.{arith}
-use Rattle.tables.specs.Walks.{walk-of, Walked, Further}
+use Rattle.tables.specs.Walks.{walk-of}
+use Rattle.tables.specs.Progress.{Walked, Further}
 use Rattle.tables.proofs.Fills.{further-none, further-still, scan-walked, scan-further}
 use Rattle.tables.proofs.Fills.{fill-starts, fill-ends, fill-fits}
 use Rattle.tables.proofs.walk.fill.Statement.{statement}
@@ -10,7 +11,7 @@ use Rattle.tables.proofs.walk.fill.Tie as tie
 
 abbrev Inv-loop : tie.InvT-loop
 Inv-loop letters work₀ table count size walk₀ i₀ work walk i =
-    Walked letters work table i (walk-of walk) × Further letters table (table .first) i work₀ work
+    Walked letters work table i (walk-of walk) × Further letters work₀ table (table .first) i work
 
 abbrev μ-loop : tie.MeasureT-loop
 μ-loop letters work₀ table count size walk₀ i₀ work walk i = table .walked .size - i
@@ -29,11 +30,11 @@ follow-requires c κs = c .before .loop .inv .0
 
 further : (c : tie.After-follow Inv-loop μ-loop)
     → let s = start-of c .args in
-    Further (s .letters .now) (s .table) (s .table .first) (c .follow .result .i) (s .work .now) (c .follow .last .1 .0)
-further c = further-still (loop-of c .loop .inv .1) (c .follow .ensures .1)
+    Further (s .letters .now) (s .work .now) (s .table) (s .table .first) (c .follow .result .i) (c .follow .last .1 .0)
+further c = further-still (loop-of c .loop .inv .1) (c .follow .ensures .further)
 
 scan-at-requires : tie.Need-scan-at-requires Inv-loop μ-loop
-scan-at-requires c κs = c .before .before .before .before .follow .ensures .0 .scannable (c .before .if1 .left)
+scan-at-requires c κs = c .before .before .before .before .follow .ensures .stopped .scannable (c .before .if1 .left)
 
 -- the way back from a scan
 abbrev stop-of : tie.After-slice-known3 Inv-loop μ-loop → tie.After-follow Inv-loop μ-loop
@@ -44,12 +45,12 @@ test-of : (c : tie.After-slice-known3 Inv-loop μ-loop)
 test-of c = c .before .before .before .before .if1 .left
 
 loop-less : tie.Need-loop-less Inv-loop μ-loop
-loop-less c = omega (arith, test-of c, stop-of c .follow .ensures .1 .onward)
+loop-less c = omega (arith, test-of c, stop-of c .follow .ensures .further .onward)
 
 loop-again : tie.Need-loop-again Inv-loop μ-loop
 loop-again c =
     let d = stop-of c in
-    let stopped = d .follow .ensures .0 in
+    let stopped = d .follow .ensures .stopped in
     let e = c .before .before .scan-at .ensures in (
       scan-walked _ _ _ _ stopped (test-of c) (e .1) (e .0),
       scan-further _ _ _ _ stopped (test-of c) (e .1) (further d),
@@ -61,7 +62,7 @@ end-of c = c .before .before .before
 add-result : tie.Need-add-result Inv-loop μ-loop
 add-result c =
     let d = end-of c in
-    record { fits = fill-fits _ _ _ _ (start-of d .pre) _ _ (further d) (d .follow .ensures .0) (c .if1 .taken) }
+    record { fits = fill-fits _ _ _ _ (start-of d .pre) _ _ (further d) (d .follow .ensures .stopped) (c .if1 .taken) }
 
 same-length : tie.Need-same-length Inv-loop μ-loop
 same-length c = further (end-of c) .as-long
@@ -69,8 +70,7 @@ same-length c = further (end-of c) .as-long
 returns : tie.Need-returns Inv-loop μ-loop
 returns c =
     let d = end-of c in
-    let e = fill-ends _ _ _ _ (start-of d .pre) _ _ (further d) (d .follow .ensures .0) (c .if1 .taken) in
-    (rw (e .costs), e .fills)
+    fill-ends _ _ _ _ (start-of d .pre) _ _ (further d) (d .follow .ensures .stopped) (c .if1 .taken)
 
 pub fill-spec : {M : Type 1} → statement M
 fill-spec =

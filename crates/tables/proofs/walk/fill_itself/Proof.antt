@@ -6,9 +6,7 @@ use Rattle.tables.proofs.walk.fill_itself.Statement.{statement}
 use Rattle.tables.proofs.walk.fill_itself.Tie as tie
 
 returns : tie.Need-returns
-returns c =
-    let e = fills-none _ _ _ _ (c .before .before .before .before .pre) (omega (arith, c .if1)) in
-    (omega (arith, e .costs), e .fills)
+returns c = fills-none _ _ _ _ (c .before .before .before .before .pre) (omega (arith, c .if1))
 
 fill-requires : tie.Need-fill-requires
 fill-requires c κs = rw (c .itself .ensures) (c .before .before .before .before .before .before .pre)

@@ -5,7 +5,7 @@ use mathlib.Core.Path.{_∙_}
 use native.Mathlib.Omega.{arith}
 use lib.ListN.{length}
 use Rattle.repetition.specs.Limits.{length-limit}
-use Rattle.tables.specs.Walks.{Walked, Further}
+use Rattle.tables.specs.Progress.{Walked, Further}
 use Rattle.tables.proofs.Fills.{further-none, further-still, follow-ends, follow-entry, follow-short, follow-reads}
 use Rattle.tables.proofs.Fills.{follow-stops, free-walked, free-further}
 use Rattle.tables.proofs.walk.follow.Statement.{statement}
@@ -13,7 +13,7 @@ use Rattle.tables.proofs.walk.follow.Tie as tie
 
 abbrev Inv-loop : tie.InvT-loop
 Inv-loop letters work₀ table i k e cost on₀ work on =
-    Walked letters work table on (record { k = k; e = e; cost = cost }) × Further letters table i on work₀ work
+    Walked letters work table on (record { k = k; e = e; cost = cost }) × Further letters work₀ table i on work
 
 abbrev μ-loop : tie.MeasureT-loop
 μ-loop letters work₀ table i k e cost on₀ work on = e - on
@@ -42,7 +42,10 @@ returns : tie.Need-returns Inv-loop μ-loop
 returns c =
     let d = c .before in
     let k = loop-of d .loop .inv in
-    (follow-stops _ _ _ _ _ (k .0) (test-of d) (d .own-length .ensures) (c .if1 .taken), k .1)
+    record {
+      stopped = follow-stops _ _ _ _ _ (k .0) (test-of d) (d .own-length .ensures) (c .if1 .taken);
+      further = k .1;
+    }
 
 -- what holds at a position that the record reaches
 entry : (c : tie.After-own-length Inv-loop μ-loop)
@@ -80,12 +83,15 @@ abbrev seek-of : tie.After-slice-known2 Inv-loop μ-loop → tie.After-seek Inv-
 seek-of c = c .before .before
 
 same-length-2 : tie.Need-same-length-2 Inv-loop μ-loop
-same-length-2 c = seek-of c .seek .ensures .1 .as-long ∙ seek-of c .before .before .before .loop .inv .1 .as-long
+same-length-2 c = seek-of c .seek .ensures .further .as-long ∙ seek-of c .before .before .before .loop .inv .1 .as-long
 
 returns-2 : tie.Need-returns-2 Inv-loop μ-loop
 returns-2 c =
     let d = seek-of c in
-    (d .seek .ensures .0, further-still (d .before .before .before .loop .inv .1) (d .seek .ensures .1))
+    record {
+      stopped = d .seek .ensures .stopped;
+      further = further-still (d .before .before .before .loop .inv .1) (d .seek .ensures .further);
+    }
 
 pub follow-spec : {M : Type 1} → statement M
 follow-spec =

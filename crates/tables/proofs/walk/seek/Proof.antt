@@ -2,14 +2,14 @@
 -- positions left. Assumes nothing.
 use Prim.Native.Nat.{_-_}
 use native.Mathlib.Omega.{arith}
-use Rattle.tables.specs.Walks.{Seeking, Further}
+use Rattle.tables.specs.Progress.{Seeking, Further}
 use Rattle.tables.proofs.Fills.{further-none, Looks, seek-ends, seek-looks, seek-stops, seek-next, seek-further}
 use Rattle.tables.proofs.walk.seek.Statement.{statement}
 use Rattle.tables.proofs.walk.seek.Tie as tie
 
 abbrev Inv-loop : tie.InvT-loop
 Inv-loop letters work₀ table i cost looks₀ on₀ work looks on =
-    Seeking letters work table on looks × Further letters table i on work₀ work
+    Seeking letters work table on looks × Further letters work₀ table i on work
 
 abbrev μ-loop : tie.MeasureT-loop
 μ-loop letters work₀ table i cost looks₀ on₀ work looks on = table .walked .size - on
@@ -43,7 +43,10 @@ returns : tie.Need-returns Inv-loop μ-loop
 returns c =
     let d = c .before in
     let k = loop-of d .loop .inv in
-    (seek-stops _ _ _ _ _ (k .0) (d .before .before .if1 .taken) (d .look .ensures) (c .if2 .taken), k .1)
+    record {
+      stopped = seek-stops _ _ _ _ _ (k .0) (d .before .before .if1 .taken) (d .look .ensures) (c .if2 .taken);
+      further = k .1;
+    }
 
 add-entry : tie.Need-add-entry Inv-loop μ-loop
 add-entry c = omega (arith, looks (look-of c .before .before) .entry-inside)
@@ -69,7 +72,7 @@ same-length-2 c = c .before .before .loop .inv .1 .as-long
 returns-2 : tie.Need-returns-2 Inv-loop μ-loop
 returns-2 c =
     let k = c .before .before .loop .inv in
-    (seek-ends _ _ _ _ _ (k .0) (c .if1 .left), k .1)
+    record { stopped = seek-ends _ _ _ _ _ (k .0) (c .if1 .left); further = k .1 }
 
 pub seek-spec : {M : Type 1} → statement M
 seek-spec =

@@ -6,15 +6,15 @@ ghost use Prim.Native.Nat.{_<_, _/_};
 ghost use lib.ListN.{length};
 ghost use Rattle.io.specs.Counts.{Counts};
 
-struct Block {
-    half: usize,
-    first: usize,
-    last: usize,
+pub struct Block {
+    pub half: u16,
+    pub first: u16,
+    pub last: u16,
 }
 
 impl Block {
     fn holds(self, start: usize, half: usize) -> bool {
-        self.half == half && self.first <= start && start <= self.last
+        self.half as usize == half && self.first as usize <= start && start <= self.last as usize
     }
 
     // None if the first comes after the last.
@@ -27,18 +27,14 @@ impl Block {
     }
 }
 
-fn wide(number: u16) -> usize {
-    number as usize
-}
-
-fn block_at(list: &[u16], place: usize) -> Block
+pub fn block_at(list: &[u16], place: usize) -> Block
     requires { do ⌜ place < length (now list) / (← ⟦Finder::NUMBERS_PER_BLOCK⟧) ⌝ }
 {
     let at = Finder::NUMBERS_PER_BLOCK * place;
     Block {
-        half: wide(list[at]),
-        first: wide(list[at + 1]),
-        last: wide(list[at + 2]),
+        half: list[at],
+        first: list[at + 1],
+        last: list[at + 2],
     }
 }
 
@@ -78,22 +74,12 @@ pub fn starts(list: &[u16]) -> u64 {
     all
 }
 
-// Has each block its first start no later than its last?
-pub fn are_in_order(list: &[u16]) -> bool {
-    for place in 0..list.len() / Finder::NUMBERS_PER_BLOCK {
-        if block_at(list, place).starts() == 0 {
-            return false;
-        }
-    }
-    true
-}
-
 // Is this the first start of the first block with this half?
 pub fn is_first(list: &[u16], half: usize, start: usize) -> bool {
     for place in 0..list.len() / Finder::NUMBERS_PER_BLOCK {
         let block = block_at(list, place);
-        if block.half == half {
-            return block.first == start;
+        if block.half as usize == half {
+            return block.first as usize == start;
         }
     }
     false

@@ -2,6 +2,7 @@
 use crate::blocks;
 use crate::brute;
 use crate::counts::Counts;
+use crate::order;
 use crate::places;
 use crate::places::Seen;
 use crate::texts::MOST_LETTERS;
@@ -94,13 +95,16 @@ fn judge(
     let totals = totals_of(listing);
     let numbers = blocks::numbers_of(totals.blocks, report);
     let list = &report[..numbers];
+    let are_of_one_class = order::are_of_one_class(list, text.len());
+    let are_in_order = order::are_in_order(list, text.len());
     let seen = places::try_all(text, list);
     counts_of(totals, seen)
         .judged(is_finished(listing))
         .judged(totals.blocks as usize <= block_bound)
         .judged(totals.comparisons as usize <= comparison_bound)
         .judged(blocks::starts(list) == seen.repetitions)
-        .judged(blocks::are_in_order(list))
+        .judged(are_of_one_class)
+        .judged(are_in_order)
         .judged(longest_agrees(longest, list, seen.greatest_half))
         .judged(freedom_agrees(freedom, seen.repetitions))
         .judged(room_agrees(room, block_bound))

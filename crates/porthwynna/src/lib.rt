@@ -29,11 +29,11 @@ pub extern "C" fn porthwynna_list(
     match listed {
         Listing::Finished(totals) => {
             answer::put_totals(answer, totals);
-            number::ANSWERED
+            number::DONE
         }
         Listing::Full(totals) => {
             answer::put_totals(answer, totals);
-            number::REPORT_FULL
+            number::FULL
         }
         Listing::TextTooLong => number::TEXT_TOO_LONG,
         Listing::WorkTooShort => number::WORK_TOO_SHORT,
@@ -52,11 +52,11 @@ pub extern "C" fn porthwynna_stands(text: &[u8], start: u64, half: u64, answer: 
     match tested {
         Place::Stands => {
             answer::put_one(answer, answer::YES);
-            number::ANSWERED
+            number::DONE
         }
         Place::DoesNotStand => {
             answer::put_one(answer, answer::NO);
-            number::ANSWERED
+            number::DONE
         }
         Place::TextTooLong => number::TEXT_TOO_LONG,
         Place::NoSuchPlace => number::NO_SUCH_PLACE,
@@ -76,11 +76,11 @@ pub extern "C" fn porthwynna_is_free(text: &[u8], work: &mut [u16], answer: &mut
     match tested {
         Freedom::Free => {
             answer::put_one(answer, answer::YES);
-            number::ANSWERED
+            number::DONE
         }
         Freedom::NotFree => {
             answer::put_one(answer, answer::NO);
-            number::ANSWERED
+            number::DONE
         }
         Freedom::TextTooLong => number::TEXT_TOO_LONG,
         Freedom::WorkTooShort => number::WORK_TOO_SHORT,
@@ -102,11 +102,11 @@ pub extern "C" fn porthwynna_longest(text: &[u8], work: &mut [u16], answer: &mut
             let start_value = answer::value_of(start);
             let half_value = answer::value_of(half);
             answer::put_two(answer, start_value, half_value);
-            number::ANSWERED
+            number::DONE
         }
         Longest::Nothing => {
             answer::put_two(answer, 0, 0);
-            number::ANSWERED
+            number::DONE
         }
         Longest::TextTooLong => number::TEXT_TOO_LONG,
         Longest::WorkTooShort => number::WORK_TOO_SHORT,
@@ -125,7 +125,7 @@ pub extern "C" fn porthwynna_room(n: usize, answer: &mut [u32]) -> u32
     match asked {
         Room::Blocks(blocks) => {
             answer::put_one(answer, blocks);
-            number::ANSWERED
+            number::DONE
         }
         Room::TextTooLong => number::TEXT_TOO_LONG,
     }

@@ -41,9 +41,9 @@ module _ (needs : ℕ) (answer : List ℕ) where
   -- ---- an answer that is too short
 
   module _ (short : length answer < needs) where
-    pub kept-short : {A : Type 0} (before after : A) → before ≡ kept-if-short needs answer before after
+    pub kept-short : {A : Type 0} (if-short if-enough : A) → if-short ≡ kept-if-short needs answer if-short if-enough
     unfolding kept-if-short
-    kept-short before after = rw (lt-ltb (length answer) needs short)
+    kept-short if-short if-enough = rw (lt-ltb (length answer) needs short)
 
     pub back-short : (q : Reply) → back answer-too-short answer ≡ handed-back needs answer q
     unfolding handed-back
@@ -52,9 +52,9 @@ module _ (needs : ℕ) (answer : List ℕ) where
   -- ---- one that is long enough
 
   module _ (enough : needs ≤ length answer) where
-    pub kept-enough : {A : Type 0} (before after : A) → after ≡ kept-if-short needs answer before after
+    pub kept-enough : {A : Type 0} (if-short if-enough : A) → if-enough ≡ kept-if-short needs answer if-short if-enough
     unfolding kept-if-short
-    kept-enough before after = rw (le-ltb (length answer) needs enough)
+    kept-enough if-short if-enough = rw (le-ltb (length answer) needs enough)
 
     handed-is : {n : ℕ} {vs : List ℕ} {q : Reply} → reply n vs ≡ q → back n (over vs answer) ≡ handed-back needs answer q
     unfolding handed-back

@@ -11,9 +11,9 @@ use Rattle.repetition.specs.Outcomes.{Reply}
 abbrev pub answer-too-short : ℕ
 answer-too-short = 99
 
--- What a function leaves that needs so many numbers of the answer: what was before, where the answer is shorter.
-unfoldable pub kept-if-short : {A : Type 0} (needs : ℕ) (answer : List ℕ) (before after : A) → A
-kept-if-short needs answer before after = cond (ltb (length answer) needs) before after
+-- What a function leaves that needs so many numbers of the answer: where the answer is shorter, what is lent as it was.
+unfoldable pub kept-if-short : {A : Type 0} (needs : ℕ) (answer : List ℕ) (if-short if-enough : A) → A
+kept-if-short needs answer if-short if-enough = cond (ltb (length answer) needs) if-short if-enough
 
 -- the result, and the answer as it is left
 pub record Back : Type 0 where

@@ -16,15 +16,6 @@ use Rattle.repetition.proofs.Lists.{each-below-true, each-below-at}
 -- ---- a repetition stands
 
 module _ (t : List ℕ) (s p : ℕ) where
-  pub true-stands : Repetition t s p → stands t s p ≡ true
-  unfolding stands
-  true-stands r =
-      rw (
-        le-leb 1 p (r .nonempty),
-        le-leb (s + 2 * p) (length t) (r .within),
-        each-below-true p (λ k. eqb (getD t (s + k) 0) (getD t (s + p + k) 0)) (λ k l. eq-eqb _ _ (r .twice k l)),
-      )
-
   pub stands-true : stands t s p ≡ true → Repetition t s p
   unfolding stands
   stands-true e =
@@ -38,6 +29,15 @@ module _ (t : List ℕ) (s p : ℕ) where
         within = leb-true (s + 2 * p) (length t) (y .1);
         twice = λ k l. eqb-true _ _ (each-below-at p same (x .1) k l);
       }
+
+  pub true-stands : Repetition t s p → stands t s p ≡ true
+  unfolding stands
+  true-stands r =
+      rw (
+        le-leb 1 p (r .nonempty),
+        le-leb (s + 2 * p) (length t) (r .within),
+        each-below-true p (λ k. eqb (getD t (s + k) 0) (getD t (s + p + k) 0)) (λ k l. eq-eqb _ _ (r .twice k l)),
+      )
 
 -- ---- it belongs to a part
 

@@ -10,7 +10,7 @@ use lib.Seq.{getD-drop}
 use borrow.Author.Tests.{ltb-true, ltb-false, lt-ltb}
 use Rattle.repetition.specs.Numbers.{one-if}
 use Rattle.repetition.specs.Tables.{Table, match-at, itself}
-use Rattle.repetition.specs.Comparisons.{Walk, free, scan-cost, scanned, after, table-cost}
+use Rattle.repetition.specs.Comparisons.{Walk, free, look-ended, scan-cost, scanned, after, table-cost}
 use Rattle.repetition.proofs.Matching.{IsMatch, match-at-is, le-matched, matched-unique}
 
 -- The record of a walk that stands at position i is true.
@@ -101,7 +101,7 @@ one-if-le false = omega arith
 
 scan-cost-le : (m : Table) (i j L : ℕ) → scan-cost m i j L ≤ L - j + 1
 unfolding scan-cost
-scan-cost-le m i j L = omega (arith, one-if-le (ltb (i + L) (length (m .walked)) && ltb L (length (m .pattern))))
+scan-cost-le m i j L = omega (arith, one-if-le (look-ended m i L))
 
 -- What a walk keeps. Of a scan's cost 1 is the position's, and the rest moves the larger of e and the position on.
 record Kept (m : Table) (n : ℕ) (w : Walk) : Type 0 where

@@ -23,10 +23,14 @@ unfoldable pub free : Table → ℕ → Walk → Bool
 unfolding match-at
 free m i w = ltb i (w .e) && ltb (match-at (itself (m .pattern)) (i - w .k)) (w .e - i)
 
--- The cost of a scan at position i that starts from j and gives L: L - j, and 1 more where a look ended it,
--- that is, where both the walked text goes on beyond i + L and the pattern beyond L.
+-- A look ended the scan at position i that gives L: both the walked text goes on beyond i + L and the pattern beyond L.
+unfoldable pub look-ended : Table → ℕ → ℕ → Bool
+look-ended m i L = ltb (i + L) (length (m .walked)) && ltb L (length (m .pattern))
+
+-- The cost of a scan at position i that starts from j and gives L: L - j, and 1 more where a look ended it.
 unfoldable pub scan-cost : Table → ℕ → ℕ → ℕ → ℕ
-scan-cost m i j L = L - j + one-if (ltb (i + L) (length (m .walked)) && ltb L (length (m .pattern)))
+unfolding look-ended
+scan-cost m i j L = L - j + one-if (look-ended m i L)
 
 -- A scan at position i starts from e - i if e > i, else from 0, which is what ℕ's difference gives.
 unfoldable pub scanned : Table → ℕ → Walk → Walk

@@ -1,4 +1,5 @@
 -- `finder::search::search` meets its contract. Assumes nothing.
+use native.Mathlib.Omega.{arith}
 use borrow.Author.Needs.{needs}
 use Rattle.finder.proofs.Searches.{searched-long, searched-short, first-part, can-search, searched-found}
 use Rattle.finder.proofs.search.search.Statement.{statement}
@@ -8,7 +9,7 @@ returns : tie.Need-returns
 returns c = searched-long _ _ _ (c .if1 .taken)
 
 returns-2 : tie.Need-returns-2
-returns-2 c = searched-short _ _ _ (c .before .if1 .left) (c .if2 .taken)
+returns-2 c = searched-short _ _ _ (c .before .if1 .left) (omega (arith, c .if2 .taken))
 
 slice-aggregate-search-whole : tie.Need-slice-aggregate-search-whole
 slice-aggregate-search-whole c =

@@ -76,6 +76,6 @@ unfolding decimal
 decimal-digits n k xs l f e = e ∙ digits-spelled 9 k n f (omega arith)
 
 -- a number of at most j + 1 digits and the letter after it
-pub number-length : (j n after : ℕ) → n < 10 ^ suc j → length (number n after) ≤ suc j + 1
+pub number-length : (j n letter : ℕ) → n < 10 ^ suc j → length (number n letter) ≤ suc j + 1
 unfolding number decimal
-number-length j n after l = rw length-append (omega (arith, spelled-length 10 j n l))
+number-length j n letter l = rw length-append (omega (arith, spelled-length 10 j n l))

@@ -2,13 +2,16 @@
 use Prim.Native.Nat.{ℕ, _*_, _/_, _≤_, _<_}
 use mathlib.Core.Path.{_≡_, refl, sym, ap, _∙_}
 use mathlib.Core.List.{List, _++_, flatMap}
+use native.Mathlib.Nat.{zero-add}
 use native.Mathlib.Omega.{arith}
-use lib.ListN.{length}
+use lib.ListN.{length, length-append, length-drop}
+use lib.Seq.{length-take-le, sets-eq}
 use borrow.Author.Tests.{le-leb, lt-leb, lt-ltb, le-ltb}
+use Rattle.io.specs.Counts.{Counts}
 use Rattle.repetition.specs.Blocks.{list-of}
 use Rattle.repetition.specs.Comparisons.{comparisons}
 use Rattle.repetition.specs.Limits.{numbers-per-block}
-use Rattle.repetition.specs.Memory.{room, blocks-in}
+use Rattle.repetition.specs.Memory.{over, room, blocks-in}
 use Rattle.finder.specs.declared.reply.Totals.{Totals}
 use Rattle.finder.specs.declared.reply.Listing.{Listing}
 use Rattle.finder.specs.declared.reply.Listing.the-variants as listing
@@ -17,6 +20,26 @@ use Rattle.finder.specs.Promises.{ListPromise}
 use Rattle.finder.proofs.Demands.{totals, Grounds, demand-1, Demand-2, demand-2}
 use Rattle.listing.specs.Output.{text-limit, block-limit, refused-1, refused-3-word, line-feed}
 use Rattle.listing.specs.Output.{number, header, line, shown, output}
+use Rattle.listing.specs.Promises.{OutputPromise}
+use Rattle.listing.specs.Buffers.{Room, Put, output-room}
+
+-- what is put at the front of a buffer is the output
+pub output-put : {t out : List ℕ} {n : ℕ} {xs : List ℕ} {r : ℕ} {out-left : List ℕ} → xs ≡ output t → Put out 0 n xs r out-left
+    → n ≤ output-room → Room out 0 output-room → OutputPromise t out r out-left
+unfolding over
+output-put {out = out} {xs = xs} e put l room =
+    record {
+      ends = rw (← e) (omega arith);
+      leaves-out = rw (← e) (put .leaves ∙ sets-eq xs out 0 (omega arith) ∙ rw zero-add);
+    }
+
+-- the output lies in the buffer
+pub output-inside : {t out : List ℕ} {r : ℕ} {out-left : List ℕ} → OutputPromise t out r out-left → length out-left ≡ length out
+    → Counts r out-left
+unfolding over
+output-inside {t} {out} {r} {out-left} promise kept =
+    let l : r ≤ length out-left = omega (arith, simp (length-append, length-drop) at (ap length (promise .leaves-out))) in
+    (l, sym (length-take-le r out-left l))
 
 -- the totals of a reply are those of the list
 totals-are : (t : List ℕ) (a : Totals) → totals-values a ≡ totals t

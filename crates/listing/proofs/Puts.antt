@@ -1,62 +1,73 @@
 -- One thing is put into a buffer after another. Assumes nothing.
 use Prim.Native.Nat.{ℕ, suc, _+_, _≤_, _<_}
-use mathlib.Core.Path.{_≡_, refl, sym, ap, _∙_}
-use mathlib.Core.List.{List, [], _∷_, _++_, append-nil, append-assoc}
-use native.Mathlib.Nat.{add-zero, add-suc}
+use mathlib.Core.Path.{_≡_, refl, ap, _∙_}
+use mathlib.Core.List.{List, [], _∷_, _++_}
+use native.Mathlib.Nat.{add-zero, add-suc, suc-add}
 use native.Mathlib.Numerals.{add-one}
 use native.Mathlib.Omega.{arith}
-use lib.ListN.{length, getD, take, set, length-set, length-append}
-use lib.Seq.{length-take-le, take-all, take-suc, take-suc-set}
+use lib.ListN.{length, getD, take, set, length-append}
+use lib.Seq.{length-take-le, take-all, take-suc, sets, length-sets}
 use Rattle.listing.specs.Buffers.{Room, Put}
 
-module _ {a : List ℕ} {i : ℕ} {xs b : List ℕ} {j : ℕ} (put : Put a i xs b j) where
-  pub put-end : i ≤ length a → j ≡ i + length xs
-  put-end l =
-      sym (length-take-le j b (put .within)) ∙ ap length (put .front) ∙ length-append (take i a) xs
-      ∙ ap (λ (n : ℕ). n + length xs) (length-take-le i a l)
+sets-append : (xs ys b : List ℕ) (i : ℕ) → sets b i (xs ++ ys) ≡ sets (sets b i xs) (i + length xs) ys
+sets-append [] ys b i = rw (add-zero i)
+sets-append (x ∷ xs) ys b i = rw (add-suc i (length xs), ← suc-add i (length xs)) (sets-append xs ys (set b i x) (suc i))
 
-  pub put-more : {ys c : List ℕ} {k : ℕ} → Put b j ys c k → Put a i (xs ++ ys) c k
-  put-more {ys} more =
-      record {
-        within = more .within;
-        front = more .front ∙ ap (λ (l : List ℕ). l ++ ys) (put .front) ∙ append-assoc (take i a) xs ys;
-      }
+pub room-less : {b : List ℕ} {i m n : ℕ} → m ≤ n → Room b i n → Room b i m
+room-less l room = record { fits = omega arith }
+
+module _ {a : List ℕ} {i m : ℕ} {xs : List ℕ} {j : ℕ} {b : List ℕ} (put : Put a i m xs j b) where
+  pub put-size : length b ≡ length a
+  put-size = ap length (put .leaves) ∙ length-sets a i xs
 
   -- what room is left after it
-  pub room-left : (n : ℕ) → Room a i (length xs + n) → length b ≡ length a → Room b j n
-  room-left n room e = record { fits = omega (arith, room .fits, put-end (omega (arith, room .fits)), e) }
+  pub room-left : {n : ℕ} → Room a i (m + n) → Room b j n
+  room-left room = record { fits = omega (arith, put-size) }
+
+  pub put-more : {n : ℕ} {ys : List ℕ} {k : ℕ} {c : List ℕ} → Put b j n ys k c → Put a i (m + n) (xs ++ ys) k c
+  put-more {ys = ys} more =
+      record {
+        short = rw length-append (omega arith);
+        ends = rw length-append (omega arith);
+        leaves = more .leaves ∙ rw (put .leaves, put .ends, sets-append xs ys a i);
+      }
+
+  pub put-wider : {n : ℕ} → m ≤ n → Put a i n xs j b
+  put-wider l = record { short = omega arith; ends = put .ends; leaves = put .leaves }
 
 -- one letter is stored
-pub put-letter : (b : List ℕ) (i x : ℕ) → i < length b → Put b i (x ∷ []) (set b i x) (suc i)
-put-letter b i x l = record { within = rw (length-set b i x) l; front = take-suc-set b i x l }
+pub put-letter : (b : List ℕ) (i x : ℕ) → Put b i 1 (x ∷ []) (i + 1) (set b i x)
+put-letter b i x = record { short = omega arith; ends = refl; leaves = refl }
 
 -- ---- the loop that puts letters
 
-pub record Putting (b : List ℕ) (at : ℕ) (letters c : List ℕ) (i : ℕ) : Type 0 where
-  pub put : Put b at (take i letters) c (at + i)
-  pub same-size : length c ≡ length b
+-- the first i letters are put
+pub record Putting (b : List ℕ) (at : ℕ) (letters : List ℕ) (i : ℕ) (c : List ℕ) : Type 0 where
+  pub done : c ≡ sets b at (take i letters)
   pub inside : i ≤ length letters
 
-module _ {b : List ℕ} {at : ℕ} {letters : List ℕ} (room : Room b at (length letters)) where
-  pub none-put : Putting b at letters b 0
-  none-put =
-      record {
-        put = record { within = omega (arith, room .fits); front = rw (add-zero at, append-nil) refl };
-        same-size = refl;
-        inside = omega arith;
-      }
+module _ {b : List ℕ} {at : ℕ} {letters : List ℕ} where
+  pub none-put : Putting b at letters 0 b
+  none-put = record { done = refl; inside = omega arith }
 
-  pub next-put : {c : List ℕ} {i : ℕ} → Putting b at letters c i → i < length letters
-      → Putting b at letters (set c (at + i) (getD letters i 0)) (i + 1)
-  next-put {c} {i} p l =
-      let x = getD letters i 0 in
-      record {
-        put =
-            rw (add-one i, add-suc at i, take-suc letters i 0 l)
-            (put-more (p .put) (put-letter c (at + i) x (omega (arith, p .same-size, room .fits))));
-        same-size = length-set c (at + i) x ∙ p .same-size;
-        inside = omega arith;
-      }
+  module _ {i : ℕ} {c : List ℕ} (p : Putting b at letters i c) where
+    pub same-size : length c ≡ length b
+    same-size = ap length (p .done) ∙ length-sets b at (take i letters)
 
-  pub all-put : {c : List ℕ} {i : ℕ} → Putting b at letters c i → length letters ≤ i → Put b at letters c (at + i)
-  all-put {c} {i} p l = rw (take-all i letters l) at (p .put)
+    pub next-put : i < length letters → Putting b at letters (i + 1) (set c (at + i) (getD letters i 0))
+    next-put l =
+        record {
+          done =
+              rw (
+                p .done,
+                add-one i,
+                take-suc letters i 0 l,
+                sets-append (take i letters) (getD letters i 0 ∷ []) b at,
+                length-take-le i letters (p .inside),
+              );
+          inside = omega arith;
+        }
+
+    pub all-put : length letters ≤ i → Put b at (length letters) letters (at + i) c
+    all-put l =
+        record { short = omega arith; ends = omega (arith, p .inside); leaves = rw (take-all i letters l) at (p .done) }

@@ -1,8 +1,9 @@
 -- What the contracts say of buffers: letters that are read into one, and letters that are put into one.
 use Prim.Native.Nat.{ℕ, _+_, _≤_}
 use mathlib.Core.Path.{_≡_}
-use mathlib.Core.List.{List, _++_}
-use lib.ListN.{length, take}
+use mathlib.Core.List.{List}
+use lib.ListN.{length}
+use lib.Seq.{sets}
 use Rattle.io.specs.Counts.{Counts}
 use Rattle.listing.specs.declared.input.Input.{Input}
 use Rattle.listing.specs.declared.input.Input.the-variants as input
@@ -11,10 +12,11 @@ use Rattle.listing.specs.declared.input.Input.the-variants as input
 pub record Room (buffer : List ℕ) (at n : ℕ) : Type 0 where
   pub fits : at + n ≤ length buffer
 
--- letters are put into a buffer at a place: what is before them stays, and they end at a place within it
-pub record Put (buffer : List ℕ) (at : ℕ) (letters : List ℕ) (left : List ℕ) (end : ℕ) : Type 0 where
-  pub within : end ≤ length left
-  pub front : take end left ≡ take at buffer ++ letters
+-- letters, n at most, are put into a buffer from a place on, and the rest of it is as before: where they end, and what is left
+pub record Put (buffer : List ℕ) (at n : ℕ) (letters : List ℕ) (end : ℕ) (left : List ℕ) : Type 0 where
+  pub short : length letters ≤ n
+  pub ends : end ≡ at + length letters
+  pub leaves : left ≡ sets buffer at letters
 
 -- the text so far had n letters, has more or as many, and at most as many as there is room for
 abbrev pub ReadFrom : ℕ → ℕ → Input → Type 0

@@ -54,7 +54,7 @@ decimal = spelled 10
 -- a number and the letter after it
 unfoldable pub number : ℕ → ℕ → List ℕ
 unfolding decimal
-number n after = decimal n ++ (after ∷ [])
+number n letter = decimal n ++ (letter ∷ [])
 
 -- the line of a block: half, first start, last start
 unfoldable pub line : Block → List ℕ

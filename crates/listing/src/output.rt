@@ -10,7 +10,8 @@ ghost use mathlib.Core.List.{flatMap};
 ghost use lib.ListN.{length, getD};
 ghost use Rattle.repetition.specs.Limits.{numbers-per-block};
 ghost use Rattle.repetition.specs.Memory.{block-at, blocks-in};
-ghost use Rattle.listing.specs.Output.{number, line, header, output};
+ghost use Rattle.listing.specs.Output.{number, line, header};
+ghost use Rattle.listing.specs.Promises.{OutputPromise};
 ghost use Rattle.listing.specs.Buffers.{Room, Put, number-room, line-room, header-room, output-room};
 
 // Bytes that an input may have, and blocks that the report has room for.
@@ -21,19 +22,17 @@ const BLOCK_LIMIT: usize = 2_000;
 pub const ROOM: usize = 46 + 18 * BLOCK_LIMIT;
 
 // Puts a number of the report, and the letter after it.
-fn put_entry(out: &mut [u8], at: usize, report: &[u16], i: usize, after: u8) -> usize
+fn put_entry(out: &mut [u8], at: usize, report: &[u16], i: usize, letter: u8) -> usize
     requires { ⌜ Room (now out) at number-room × (i < length (now report)) ⌝ }
-    ensures { λ r. ⌜ Put (now (out .entry)) at (number (getD (now (report .entry)) i 0) after) (now (out .exit)) r ⌝ }
-    ensures { λ r. ⌜ r ≤ at + number-room ⌝ }
+    ensures { λ r. ⌜ Put (now (out .entry)) at number-room (number (getD (now (report .entry)) i 0) letter) r (now (out .exit)) ⌝ }
 {
-    put_number(out, at, report[i] as u32, after)
+    put_number(out, at, report[i] as u32, letter)
 }
 
 // Puts the line of the block that stands in the report after i others.
 fn put_block(out: &mut [u8], at: usize, report: &[u16], i: usize) -> usize
     requires { ⌜ Room (now out) at line-room × (numbers-per-block * (i + 1) ≤ length (now report)) ⌝ }
-    ensures { λ r. ⌜ Put (now (out .entry)) at (line (block-at (now (report .entry)) i)) (now (out .exit)) r ⌝ }
-    ensures { λ r. ⌜ r ≤ at + line-room ⌝ }
+    ensures { λ r. ⌜ Put (now (out .entry)) at line-room (line (block-at (now (report .entry)) i)) r (now (out .exit)) ⌝ }
 {
     let place = Finder::NUMBERS_PER_BLOCK * i;
     let half = put_entry(out, at, report, place, b' ');
@@ -44,7 +43,9 @@ fn put_block(out: &mut [u8], at: usize, report: &[u16], i: usize) -> usize
 // Puts the lines of the first blocks of the report.
 fn put_blocks(out: &mut [u8], at: usize, report: &[u16], blocks: usize) -> usize
     requires { ⌜ Room (now out) at (line-room * blocks) × (numbers-per-block * blocks ≤ length (now report)) ⌝ }
-    ensures { λ r. ⌜ Put (now (out .entry)) at (flatMap line (blocks-in blocks (now (report .entry)))) (now (out .exit)) r ⌝ }
+    ensures { λ r. ⌜
+        Put (now (out .entry)) at (line-room * blocks) (flatMap line (blocks-in blocks (now (report .entry)))) r (now (out .exit))
+        ⌝ }
 {
     let mut i = 0;
     let mut end = at;
@@ -57,8 +58,7 @@ fn put_blocks(out: &mut [u8], at: usize, report: &[u16], blocks: usize) -> usize
 
 fn put_header(out: &mut [u8], totals: Totals) -> usize
     requires { ⌜ Room (now out) 0 header-room ⌝ }
-    ensures { λ r. ⌜ Put (now (out .entry)) 0 (header (totals .blocks) (totals .comparisons)) (now (out .exit)) r ⌝ }
-    ensures { λ r. ⌜ r ≤ header-room ⌝ }
+    ensures { λ r. ⌜ Put (now (out .entry)) 0 header-room (header (totals .blocks) (totals .comparisons)) r (now (out .exit)) ⌝ }
 {
     let end = put_count(out, 0, b"repetitions ", totals.blocks, b' ');
     put_count(out, end, b"comparisons ", totals.comparisons, b'\n')
@@ -67,7 +67,7 @@ fn put_header(out: &mut [u8], totals: Totals) -> usize
 // Puts the whole output for a text at the front of the buffer.
 pub fn put_output(text: &[u8], out: &mut [u8]) -> usize
     requires { ⌜ Room (now out) 0 output-room ⌝ }
-    ensures { λ r. ⌜ Put (now (out .entry)) 0 (output (now (text .entry))) (now (out .exit)) r ⌝ }
+    ensures { λ r. ⌜ OutputPromise (now (text .entry)) (now (out .entry)) r (now (out .exit)) ⌝ }
 {
     if TEXT_LIMIT < text.len() {
         return put(out, 0, b"refused 1\n");

@@ -3,12 +3,12 @@
 use Prim.Native.Nat.{_-_}
 use native.Mathlib.Omega.{arith}
 use lib.ListN.{length}
-use Rattle.listing.proofs.Puts.{Putting, none-put, next-put, all-put}
+use Rattle.listing.proofs.Puts.{Putting, none-put, same-size, next-put, all-put}
 use Rattle.listing.proofs.letters.put.Statement.{statement}
 use Rattle.listing.proofs.letters.put.Tie as tie
 
 abbrev Inv-loop : tie.InvT-loop
-Inv-loop out₀ at letters i₀ out i = Putting out₀ at letters out i
+Inv-loop out₀ at letters i₀ out i = Putting out₀ at letters i out
 
 abbrev μ-loop : tie.MeasureT-loop
 μ-loop out₀ at letters i₀ out i = length letters - i
@@ -19,13 +19,13 @@ put-spec =
     (tie.spec
     Inv-loop
     μ-loop
-    (λ c. none-put (c .pre))
+    (λ c. none-put)
     (λ c. c .before .loop-test .taken)
     (λ c. omega (arith, c .before .loop-test, c .before .before .before .pre .fits, c .before .before .before .good))
-    (λ c. omega (arith, c .before .loop-test, c .before .before .before .pre .fits, c .before .before .loop .inv .same-size))
+    (λ c. omega (arith, c .before .loop-test, c .before .before .before .pre .fits, same-size (c .before .before .loop .inv)))
     (λ c. omega (arith, c .before .loop-test, c .before .before .before .good))
     (λ c. omega (arith, c .before .loop-test))
-    (λ c. next-put (c .before .before .before .pre) (c .before .before .loop .inv) (c .before .loop-test .taken))
+    (λ c. next-put (c .before .before .loop .inv) (c .before .loop-test .taken))
     (λ c. omega (arith, c .before .before .pre .fits, c .before .before .good, c .before .loop .inv .inside))
-    (λ c. c .before .loop .inv .same-size)
-    (λ c. all-put (c .before .before .pre) (c .before .loop .inv) (c .loop-test .left)))
+    (λ c. same-size (c .before .loop .inv))
+    (λ c. all-put (c .before .loop .inv) (c .loop-test .left)))

@@ -2,12 +2,13 @@
 -- the blocks left. Assumes nothing.
 use Prim.Native.Nat.{_-_}
 use native.Mathlib.Omega.{arith}
+use Rattle.listing.proofs.Puts.{put-size}
 use Rattle.listing.proofs.Lines.{Putting, no-line-put, line-fits, block-inside, next-line-put, lines-put}
 use Rattle.listing.proofs.output.put_blocks.Statement.{statement}
 use Rattle.listing.proofs.output.put_blocks.Tie as tie
 
 abbrev Inv-loop : tie.InvT-loop
-Inv-loop out₀ at report blocks i₀ end₀ out i end = Putting out₀ at report blocks out i end
+Inv-loop out₀ at report blocks i₀ end₀ out i end = Putting out₀ at report blocks i end out
 
 abbrev μ-loop : tie.MeasureT-loop
 μ-loop out₀ at report blocks i₀ end₀ out i end = blocks - i
@@ -24,9 +25,8 @@ add-i c = let t = c .before .before .before .before in omega (arith, t .loop-tes
 
 loop-again : tie.Need-loop-again Inv-loop μ-loop
 loop-again c =
-    let p = c .before .before .put-block in
     let t = c .before .before .before .before in
-    next-line-put (t .before .loop .inv) (t .loop-test .taken) (p .ensures .0) (p .ensures .1) (p .kept .0)
+    next-line-put (t .before .loop .inv) (t .loop-test .taken) (c .before .before .put-block .ensures)
 
 pub put-blocks-spec : {M : Type 1} → statement M
 put-blocks-spec =
@@ -34,10 +34,10 @@ put-blocks-spec =
     (tie.spec
     Inv-loop
     μ-loop
-    (λ c. no-line-put _ (c .before .before .pre .0))
+    (λ c. no-line-put _ _ _ _)
     put-block-requires
     add-i
     (λ c. omega (arith, c .before .before .before .before .loop-test))
     loop-again
-    (λ c. c .before .loop .inv .same-size)
+    (λ c. put-size (c .before .loop .inv .put))
     (λ c. lines-put (c .before .loop .inv) (c .loop-test .left)))

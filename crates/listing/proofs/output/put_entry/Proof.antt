@@ -1,7 +1,8 @@
 -- `listing::output::put_entry` meets its contract: a number of 16 bits has at most five digits. Assumes nothing.
 use native.Mathlib.Omega.{arith}
 use borrow.Author.Needs.{needs}
-use Rattle.listing.proofs.Numbers.{number-fits, number-end}
+use Rattle.listing.proofs.Puts.{room-less, put-wider}
+use Rattle.listing.proofs.Decimals.{number-length}
 use Rattle.listing.proofs.output.put_entry.Statement.{statement}
 use Rattle.listing.proofs.output.put_entry.Tie as tie
 
@@ -11,14 +12,14 @@ cast-put-number c = omega (arith, c .shared-slice-known2 .given (c .before .befo
 put-number-requires : tie.Need-put-number-requires
 put-number-requires c κs =
     let s = c .before .before .before .before in
-    number-fits 4 _ _ (omega (arith, c .shared-slice-known2 .given (s .args .i))) (s .pre .0)
+    room-less (number-length 4 _ _ (omega (arith, c .shared-slice-known2 .given (s .args .i)))) (s .pre .0)
 
 returns : tie.Need-returns
 returns c =
     let k = c .before .before .before in
     let s = k .before .before .before .before in
-    let p = c .before .before .put-number .ensures in
-    (p, number-end 4 _ _ (omega (arith, k .shared-slice-known2 .given (s .args .i))) (s .pre .0) p)
+    put-wider (c .before .before .put-number .ensures)
+    (number-length 4 _ _ (omega (arith, k .shared-slice-known2 .given (s .args .i))))
 
 pub put-entry-spec : {M : Type 1} → statement M
 put-entry-spec =

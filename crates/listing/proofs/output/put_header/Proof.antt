@@ -1,8 +1,7 @@
 -- `listing::output::put_header` meets its contract. Assumes nothing.
-use native.Mathlib.Omega.{arith}
 use borrow.Author.Needs.{needs}
 use Rattle.listing.specs.Output.{header}
-use Rattle.listing.proofs.Puts.{put-more}
+use Rattle.listing.proofs.Puts.{room-left, put-more}
 use Rattle.listing.proofs.output.put_header.Statement.{statement}
 use Rattle.listing.proofs.output.put_header.Tie as tie
 
@@ -12,14 +11,13 @@ start-of c = c .before .before .before .before
 put-count-requires-2 : tie.Need-put-count-requires-2
 put-count-requires-2 c κs =
     let p = c .before .before .before .before in
-    record { fits = omega (arith, p .put-count .ensures .1, p .put-count .kept .0, start-of p .pre .fits) }
+    room-left (p .put-count .ensures) (start-of p .pre)
 
 returns : tie.Need-returns
 unfolding header
 returns c =
-    let p = c .before .before .before .before .before .before .before .put-count .ensures in
-    let q = c .before .before .put-count2 .ensures in
-    (put-more (p .0) (q .0), omega (arith, p .1, q .1))
+    put-more (c .before .before .before .before .before .before .before .put-count .ensures)
+    (c .before .before .put-count2 .ensures)
 
 pub put-header-spec : {M : Type 1} → statement M
 put-header-spec =

@@ -1,4 +1,4 @@
--- The output's outcome is determined by its promise: any two outcomes that meet it are equal. Assumes nothing.
+-- The outcome of `put_output` is determined by its promise: any two outcomes that meet it are equal. Assumes nothing.
 use Prim.Native.Nat.{ℕ}
 use mathlib.Core.Path.{_≡_}
 use mathlib.Core.List.{List}

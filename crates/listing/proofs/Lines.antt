@@ -11,7 +11,7 @@ use Rattle.repetition.specs.Memory.{block-at, blocks-in}
 use Rattle.repetition.proofs.Lists.{flatMap-append, consecutive-append}
 use Rattle.listing.specs.Output.{line}
 use Rattle.listing.specs.Buffers.{Room, Put, line-room}
-use Rattle.listing.proofs.Puts.{room-less, room-left, put-more, put-wider}
+use Rattle.listing.proofs.Puts.{room-less, room-left, put-nothing, put-more, put-wider}
 
 -- the lines of the first n blocks
 abbrev lines : List ℕ → ℕ → List ℕ
@@ -28,8 +28,7 @@ pub record Putting (b : List ℕ) (at : ℕ) (report : List ℕ) (blocks n end :
 
 pub no-line-put : (b : List ℕ) (at : ℕ) (report : List ℕ) (blocks : ℕ) → Putting b at report blocks 0 at b
 unfolding blocks-in flatMap
-no-line-put b at report blocks =
-    record { put = record { short = omega arith; ends = omega arith; leaves = refl }; inside = omega arith }
+no-line-put b at report blocks = record { put = put-nothing b at; inside = omega arith }
 
 module _ {b : List ℕ} {at : ℕ} {report : List ℕ} {blocks n end : ℕ} {c : List ℕ} (p : Putting b at report blocks n end c)
     (l : n < blocks) where

@@ -12,7 +12,7 @@ use Rattle.listing.specs.declared.input.Input.the-variants as input
 pub record Room (buffer : List ℕ) (at n : ℕ) : Type 0 where
   pub fits : at + n ≤ length buffer
 
--- letters, n at most, are put into a buffer from a place on, and the rest of it is as before: where they end, and what is left
+-- letters, n at most, are put into a buffer from a place on: where they end, and the buffer as it is left, the rest as before
 pub record Put (buffer : List ℕ) (at n : ℕ) (letters : List ℕ) (end : ℕ) (left : List ℕ) : Type 0 where
   pub short : length letters ≤ n
   pub ends : end ≡ at + length letters

@@ -1,4 +1,4 @@
--- What the output promises: the whole outcome, over what a reader must believe.
+-- What `put_output` promises: its whole outcome.
 use Prim.Native.Nat.{ℕ}
 use mathlib.Core.Path.{_≡_}
 use mathlib.Core.List.{List}

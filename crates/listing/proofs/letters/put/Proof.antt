@@ -3,7 +3,7 @@
 use Prim.Native.Nat.{_-_}
 use native.Mathlib.Omega.{arith}
 use lib.ListN.{length}
-use Rattle.listing.proofs.Puts.{Putting, none-put, same-size, next-put, all-put}
+use Rattle.listing.proofs.Puts.{Putting, put-size, none-put, next-put, all-put}
 use Rattle.listing.proofs.letters.put.Statement.{statement}
 use Rattle.listing.proofs.letters.put.Tie as tie
 
@@ -19,13 +19,13 @@ put-spec =
     (tie.spec
     Inv-loop
     μ-loop
-    (λ c. none-put)
+    (λ c. none-put _ _ _)
     (λ c. c .before .loop-test .taken)
     (λ c. omega (arith, c .before .loop-test, c .before .before .before .pre .fits, c .before .before .before .good))
-    (λ c. omega (arith, c .before .loop-test, c .before .before .before .pre .fits, same-size (c .before .before .loop .inv)))
+    (λ c. omega (arith, c .before .loop-test, c .before .before .before .pre .fits, put-size (c .before .before .loop .inv .put)))
     (λ c. omega (arith, c .before .loop-test, c .before .before .before .good))
     (λ c. omega (arith, c .before .loop-test))
     (λ c. next-put (c .before .before .loop .inv) (c .before .loop-test .taken))
     (λ c. omega (arith, c .before .before .pre .fits, c .before .before .good, c .before .loop .inv .inside))
-    (λ c. same-size (c .before .loop .inv))
+    (λ c. put-size (c .before .loop .inv .put))
     (λ c. all-put (c .before .loop .inv) (c .loop-test .left)))

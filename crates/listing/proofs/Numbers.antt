@@ -8,11 +8,11 @@ use Rattle.listing.specs.Output.{decimal, number}
 use Rattle.listing.specs.Buffers.{Room, Put}
 use Rattle.listing.proofs.Puts.{room-less, room-left, put-more, put-letter}
 
-module _ {b : List ℕ} {at : ℕ} (v letter : ℕ) (digits : List ℕ) (spelled : digits ≡ decimal v)
+module _ {b : List ℕ} {at : ℕ} (v letter : ℕ) (digits : List ℕ) (e : digits ≡ decimal v)
     (room : Room b at (length (number v letter))) where
   digits-and-letter : Room b at (length digits + 1)
   unfolding number
-  digits-and-letter = rw (← spelled, length-append) at room
+  digits-and-letter = rw (← e, length-append) at room
 
   pub digits-fit : Room b at (length digits)
   digits-fit = room-less (omega arith) digits-and-letter
@@ -23,4 +23,4 @@ module _ {b : List ℕ} {at : ℕ} (v letter : ℕ) (digits : List ℕ) (spelled
 
     pub number-put : Put b at (length (number v letter)) (number v letter) (end + 1) (set c end letter)
     unfolding number
-    number-put = rw (← spelled, length-append) (put-more put (put-letter c end letter))
+    number-put = rw (← e, length-append) (put-more put (put-letter c end letter))

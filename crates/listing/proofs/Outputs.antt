@@ -27,7 +27,7 @@ use Rattle.listing.specs.Buffers.{Room, Put, output-room}
 pub output-put : {t out : List ℕ} {n : ℕ} {xs : List ℕ} {r : ℕ} {out-left : List ℕ} → xs ≡ output t → Put out 0 n xs r out-left
     → n ≤ output-room → Room out 0 output-room → OutputPromise t out r out-left
 unfolding over
-output-put {out = out} {xs = xs} e put l room =
+output-put {out = out} {xs = xs} e put l large =
     record {
       ends = rw (← e) (omega arith);
       leaves-out = rw (← e) (put .leaves ∙ sets-eq xs out 0 (omega arith) ∙ rw zero-add);

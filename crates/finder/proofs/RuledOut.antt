@@ -9,9 +9,9 @@ use Rattle.repetition.specs.Cutting.{Part}
 use Rattle.repetition.specs.Repetition.{stands}
 use Rattle.repetition.specs.Blocks.{Block, part-blocks, list-of}
 use Rattle.repetition.specs.Comparisons.{comparisons}
-use Rattle.repetition.specs.Limits.{length-limit, depth, room-for}
+use Rattle.repetition.specs.Limits.{length-limit, depth}
 use Rattle.repetition.specs.Memory.{room, blocks-in}
-use Rattle.repetition.specs.Outcomes.{Reply, listing, room-question}
+use Rattle.repetition.specs.Outcomes.{listing}
 use Rattle.repetition.specs.Examples.{aa, ab, aba, aaaa}
 use Rattle.repetition.proofs.Repetitions.{stands-true}
 use Rattle.repetition.proofs.Listing.{empty-list}

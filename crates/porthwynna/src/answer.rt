@@ -8,17 +8,17 @@ ghost use Rattle.repetition.specs.Limits.{length-limit};
 ghost use Rattle.repetition.specs.Memory.{over};
 ghost use Rattle.finder.specs.Replies.{totals-values};
 
-// Numbers that an answer needs for K and C,
+// Numbers that an answer needs for K and C.
 pub const TOTALS: usize = 2;
-// for a yes or a no,
+// Numbers that it needs for a yes or a no.
 pub const YES_OR_NO: usize = 1;
-// for the longest repetition,
+// Numbers that it needs for the longest repetition.
 pub const START_AND_HALF: usize = 2;
-// and for n times D.
+// Numbers that it needs for n times D.
 pub const BLOCKS: usize = 1;
-// The values of a yes
+// The value of a yes.
 pub const YES: u32 = 1;
-// and of a no.
+// The value of a no.
 pub const NO: u32 = 0;
 
 pub fn put_one(answer: &mut [u32], value: u32)

@@ -146,11 +146,11 @@ module _ (t : List ℕ) (s p : ℕ) where
       go true e = part-counted (stands-true t s p e)
       go false e = total-zero (parts 0 (length t))
 
-  -- Law 2. A repetition belongs to exactly one part (and there, by right-or-left, to exactly one class) ..
+  -- Law 2. A repetition belongs to exactly one part, and there, by right-or-left, to exactly one class.
   pub in-part : (none : Part) → Repetition t s p → OnePlace (λ q. belongs q s p) none (parts 0 (length t))
   in-part none r = one-counted (λ q. belongs q s p) none (parts 0 (length t)) (part-counted r)
 
-  -- .. and lies in exactly one listed block: there is a place in the list, and only one.
+  -- A repetition lies in exactly one listed block: there is a place in the list, and only one.
   pub in-block : (none : Block) → Repetition t s p → OnePlace (has s p) none (list-of t)
   in-block none r = one-counted (has s p) none (list-of t) (list-count ∙ ap one-if (true-stands t s p r))
 
@@ -194,7 +194,7 @@ module _ (t : List ℕ) where
       has-first b (⊎-elim (listed-in-class (q .0) (q .1) right b) (listed-in-class (q .0) (q .1) left b)
       (List·Memᴰ·append-cases (class-blocks t right (q .0)) (q .2)))
 
-  -- The list is empty exactly when the text has no repetition ..
+  -- The list is empty exactly when the text has no repetition.
   pub empty-list : (list-of t ≡ []) ↔ ((s p : ℕ) → Repetition t s p → ⊥)
   unfolding how-many
   empty-list = (
@@ -208,7 +208,7 @@ module _ (t : List ℕ) where
           let m : List·Memᴰ b (list-of t) = rw e (List·Memᴰ·head refl) in
           absurd (none (b .first) (b .half) (listed-repetition t (b .first) (b .half) b m (listed-start b m)))
 
-  -- .. and so is the free test's yes.
+  -- The free test says yes exactly then.
   pub free-text : (repetition-free t ≡ true) ↔ ((s p : ℕ) → Repetition t s p → ⊥)
   unfolding repetition-free
   free-text =

@@ -2,7 +2,7 @@
 -- and what a walk costs. Assumes nothing.
 use Prim.Native.Nat.{ℕ, zero, suc, _+_, _*_, _-_, _≤_, _<_, max}
 use mathlib.Core.Path.{_≡_, refl, sym, _∙_}
-use mathlib.Core.Bool.{Bool, true, false, _&&_, cond, and-eq-true-iff}
+use mathlib.Core.Bool.{Bool, true, false, cond, and-eq-true-iff}
 use native.Mathlib.Omega.{arith, by-contra}
 use lib.ListN.{length, drop, getD, length-drop}
 use lib.Dec.{ltb}
@@ -73,13 +73,13 @@ pub free-false : (m : Table) (i : ℕ) (w : Walk) → free m i w ≡ false → i
 unfolding free
 free-false m i w h ahead = ltb-false (own m i w) (w .e - i) (rw (lt-ltb i (w .e) ahead) at h)
 
--- The two cases of the rule, as it tests for them. A free position has a record ..
+-- The rule's free case, as it tests for it: there is a record then.
 pub free-match : (m : Table) (i : ℕ) (w : Walk) → (0 < w .e → Alive m i w) → free m i w ≡ true → match-at m i ≡ own m i w
 free-match m i w alive h =
     let f = free-true m i w h in
     free-length m i w (alive (omega arith)) (f .0) (f .1)
 
--- .. and a scan may have none: then e - i is 0.
+-- The rule's scanning case: there may be no record, and then e - i is 0.
 pub scan-from : (m : Table) (i : ℕ) (w : Walk) → (0 < w .e → Alive m i w) → free m i w ≡ false → w .e - i ≤ match-at m i
 scan-from m i w alive h =
     by-contra _ _ (λ short.

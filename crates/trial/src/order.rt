@@ -5,13 +5,13 @@ use crate::texts::MOST_LETTERS;
 use finder::Finder;
 ghost use Prim.Native.Nat.{_+_, _≤_, _<_};
 
-// What is listed of a part, in turn: its right repetitions,
+// What comes first of a part in the list: its right repetitions.
 const RIGHT_ONES: usize = 0;
-// its left ones,
+// What comes second: its left ones.
 const LEFT_ONES: usize = 1;
-// those of its left piece,
+// What comes third: those of its left piece.
 const LEFT_PIECE: usize = 2;
-// and those of its right piece.
+// What comes last: those of its right piece.
 const RIGHT_PIECE: usize = 3;
 
 struct Repetition {

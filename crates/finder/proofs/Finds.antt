@@ -104,7 +104,7 @@ length-tables-left t limit =
     ap length (foldl-append (λ w q. with-tables t q w) (with-tables t (part x y) work) (parts x (cut x y)) (parts (cut x y) y))
     ∙ vs in-text (tables-left t (with-tables t (part x y) work) (parts x (cut x y))) (omega (arith, e, f)) ∙ f ∙ e)
 
--- ---- a small part: nothing is found and nothing left
+-- ---- a small part: nothing is found, and all is left as it was
 
 pub none-found : {t work report : List ℕ} {y : Tally} (a b : ℕ) → b - a < 2 → Finds t work report (parts a b) y y work report
 none-found a b l = record { keeps = sym (none-over _ _ a b l); leaves-work = sym (none-over _ _ a b l) }

@@ -100,7 +100,7 @@ module _ (t : List ℕ) {s : List ℕ} (lent : s ≡ both-ways t) where
 -- ---- the three outcomes
 
 module _ (t work : List ℕ) (l : length t ≤ length-limit) (m : 2 * length t ≤ length work) where
-  pub first-part : 2 * length t ≡ length (take (2 * length t) work)
+  first-part : 2 * length t ≡ length (take (2 * length t) work)
   first-part = sym (length-take-le (2 * length t) work m)
 
   pub can-search : CanSearch t (take (2 * length t) work)

@@ -1,7 +1,9 @@
 -- `finder::search::search` meets its contract. Assumes nothing.
+use mathlib.Core.Path.{sym}
 use native.Mathlib.Omega.{arith}
 use borrow.Author.Needs.{needs}
-use Rattle.finder.proofs.Searches.{searched-long, searched-short, first-part, can-search, searched-found}
+use lib.Seq.{length-take-le}
+use Rattle.finder.proofs.Searches.{searched-long, searched-short, can-search, searched-found}
 use Rattle.finder.proofs.search.search.Statement.{statement}
 use Rattle.finder.proofs.search.search.Tie as tie
 
@@ -12,9 +14,7 @@ returns-2 : tie.Need-returns-2
 returns-2 c = searched-short _ _ _ (c .before .if1 .left) (omega (arith, c .if2 .taken))
 
 slice-aggregate-search-whole : tie.Need-slice-aggregate-search-whole
-slice-aggregate-search-whole c =
-    let s = c .before .before .before .before .before .before .args in
-    first-part (s .text .now) (s .work .now) (c .before .before .if1 .left) (c .before .if2 .left)
+slice-aggregate-search-whole c = sym (length-take-le _ _ (c .before .if2 .left))
 
 search-whole-requires : tie.Need-search-whole-requires
 search-whole-requires c κs = can-search _ _ (c .before .before .before .if1 .left) (c .before .before .if2 .left)

@@ -2,15 +2,14 @@
 use Prim.Native.Nat.{ℕ}
 use mathlib.Core.Path.{_≡_, sym, ap, _∙_}
 use lib.ListN.{length, replicate}
+use lib.Seq.{length-take-le}
 use borrow.Author.Needs.{needs}
-use Rattle.finder.proofs.Searches.{first-part, can-find-lent, found-lent, letters-over}
+use Rattle.finder.proofs.Searches.{can-find-lent, found-lent, letters-over}
 use Rattle.finder.proofs.search.search_letters.Statement.{statement}
 use Rattle.finder.proofs.search.search_letters.Tie as tie
 
 slice-aggregate-letters : tie.Need-slice-aggregate-letters
-slice-aggregate-letters c =
-    let s = c .before .before .before .before .before in
-    first-part (s .args .text .now) (s .args .buffer .now) (s .pre .0 .limit) (s .pre .1)
+slice-aggregate-letters c = sym (length-take-le _ _ (c .before .before .before .before .before .pre .1))
 
 write-letters-requires : tie.Need-write-letters-requires
 write-letters-requires c κs = sym (slice-aggregate-letters (c .before))

@@ -43,7 +43,7 @@ returns c =
     let d = c .before in
     let k = loop-of d .loop .inv in
     record {
-      stopped = follow-stops _ _ _ _ _ (k .0) (test-of d) (d .own-length .ensures) (c .if1 .taken);
+      stopped = follow-stops _ _ _ _ _ (k .0) (test-of d) (d .own-length .ensures) (omega (arith, c .if1 .taken));
       further = k .1;
     }
 

@@ -3,7 +3,7 @@ use Prim.Native.Nat.{ℕ}
 use mathlib.Core.Path.{_≡_, sym, _∙_}
 use mathlib.Core.List.{List}
 use Rattle.porthwynna.specs.Answers.{Back, back}
-use Rattle.porthwynna.specs.Promises.{ListCall, PlaceCall, FreeCall, LongestCall, RoomCall}
+use Rattle.porthwynna.specs.Promises.{ListCall, PlaceCall, FreeCall, LongestCall, RoomCall, VersionCall}
 use Rattle.porthwynna.proofs.Answers.{told}
 
 same-back : {n n′ : ℕ} {answer answer′ : List ℕ} {b : Back} → back n answer ≡ b → back n′ answer′ ≡ b
@@ -33,3 +33,6 @@ one-longest x y = (same-back (x .hands-back) (y .hands-back), cc)
 pub one-room : {answer answer-left answer-left′ : List ℕ} {n r r′ : ℕ} → RoomCall n answer r answer-left
     → RoomCall n answer r′ answer-left′ → (r ≡ r′) × (answer-left ≡ answer-left′)
 one-room x y = same-back (x .hands-back) (y .hands-back)
+
+pub one-version : {r r′ : ℕ} → VersionCall r → VersionCall r′ → r ≡ r′
+one-version x y = x .built-as ∙ sym (y .built-as)

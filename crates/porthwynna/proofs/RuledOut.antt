@@ -8,7 +8,8 @@ use Rattle.repetition.specs.Limits.{length-limit}
 use Rattle.repetition.specs.Outcomes.{Reply, listing, place, free-test, longest, room-question}
 use Rattle.repetition.specs.Examples.{aa, ab}
 use Rattle.porthwynna.specs.Answers.{answer-too-short, Back, back, handed-back, zeros-for-none}
-use Rattle.porthwynna.specs.Promises.{ListCall, PlaceCall, FreeCall, LongestCall, RoomCall}
+use Rattle.porthwynna.specs.Version.{version-number}
+use Rattle.porthwynna.specs.Promises.{ListCall, PlaceCall, FreeCall, LongestCall, RoomCall, VersionCall}
 use Rattle.porthwynna.proofs.Answers.{told, kept-short, back-short}
 
 -- the first number of an answer, by what a program would leave there
@@ -114,3 +115,14 @@ module _ {answer-left answer-left′ : List ℕ} {r r′ : ℕ} (e : answer-left
       → FreeCall ab (nines 4) (nines 1) r′ work-left′ answer-left′ → ⊥
   unfolding free-test handed-back
   free-not-constant x y = omega (arith, first-is (x .hands-back) e, first-is (y .hands-back) refl)
+
+-- ---- a version that is the one before, 0.1.0, or that has minor version and patch swapped
+
+module _ {r : ℕ} (x : VersionCall r) where
+  pub version-not-before : r ≡ version-number 0 1 0 → ⊥
+  unfolding version-number
+  version-not-before e = omega (arith, x .built-as, e)
+
+  pub version-not-swapped : r ≡ version-number 0 0 2 → ⊥
+  unfolding version-number
+  version-not-swapped e = omega (arith, x .built-as, e)

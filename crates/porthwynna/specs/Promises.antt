@@ -6,6 +6,7 @@ use mathlib.Core.Path.{_≡_}
 use mathlib.Core.List.{List}
 use Rattle.repetition.specs.Outcomes.{listing, place, free-test, longest, room-question}
 use Rattle.porthwynna.specs.Answers.{kept-if-short, back, handed-back, zeros-for-none}
+use Rattle.porthwynna.specs.Version.{version}
 
 pub record ListCall (t work report answer : List ℕ) (r : ℕ) (work-left report-left answer-left : List ℕ) : Type 0 where
   pub hands-back : back r answer-left ≡ handed-back 2 answer (listing t work report .reply)
@@ -25,3 +26,6 @@ pub record LongestCall (t work answer : List ℕ) (r : ℕ) (work-left answer-le
 
 pub record RoomCall (n : ℕ) (answer : List ℕ) (r : ℕ) (answer-left : List ℕ) : Type 0 where
   pub hands-back : back r answer-left ≡ handed-back 1 answer (room-question n)
+
+pub record VersionCall (r : ℕ) : Type 0 where
+  pub built-as : r ≡ version

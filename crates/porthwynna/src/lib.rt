@@ -2,6 +2,7 @@
 // reply's values go to the front of the answer that the caller lends. An answer too short for them is refused before all else.
 mod answer;
 mod number;
+mod version;
 
 use finder::Finder;
 use finder::reply::Freedom;
@@ -9,7 +10,7 @@ use finder::reply::Listing;
 use finder::reply::Longest;
 use finder::reply::Place;
 use finder::reply::Room;
-ghost use Rattle.porthwynna.specs.Promises.{ListCall, PlaceCall, FreeCall, LongestCall, RoomCall};
+ghost use Rattle.porthwynna.specs.Promises.{ListCall, PlaceCall, FreeCall, LongestCall, RoomCall, VersionCall};
 
 // The list of all repetitions, as blocks in the report. Into the answer: number of blocks K, comparisons C.
 #[no_mangle]
@@ -129,4 +130,12 @@ pub extern "C" fn porthwynna_room(n: usize, answer: &mut [u32]) -> u32
         }
         Room::TextTooLong => number::TEXT_TOO_LONG,
     }
+}
+
+// The version that the library is built as, as one number: 10000 for each major version, 100 for each minor one, and the patch.
+#[no_mangle]
+pub extern "C" fn porthwynna_version() -> u32
+    ensures { λ r. ⌜ VersionCall r ⌝ }
+{
+    10000 * version::MAJOR + 100 * version::MINOR + version::PATCH
 }

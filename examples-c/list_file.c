@@ -1,5 +1,5 @@
 /* Lists the repetitions of a file: list_file FILE
-   Build: gcc -std=c99 list_file.c -o list_file $(pkg-config --cflags --libs porthwynna) */
+   README.md, 'Use it from C and C++', says how it is built. */
 #include <stdio.h>
 #include <stdlib.h>
 
@@ -8,8 +8,8 @@
 #define LENGTH(array) (sizeof(array) / sizeof *(array))
 
 static uint8_t text[PORTHWYNNA_LENGTH_LIMIT + 1]; /* one byte more, so that a longer file is refused and not cut off */
-static uint16_t work[PORTHWYNNA_WORK_PER_BYTE * PORTHWYNNA_LENGTH_LIMIT];
-static uint16_t report[PORTHWYNNA_NUMBERS_PER_BLOCK * PORTHWYNNA_LENGTH_LIMIT * PORTHWYNNA_GREATEST_DEPTH];
+static uint16_t work[PORTHWYNNA_LARGEST_WORK];
+static uint16_t report[PORTHWYNNA_LARGEST_REPORT];
 
 static int fail(const char *what)
 {
@@ -32,12 +32,16 @@ int main(int argc, char **argv)
     fclose(file);
 
     uint32_t totals[PORTHWYNNA_LIST_ANSWER];
-    if (porthwynna_list(text, n, work, LENGTH(work), report, LENGTH(report), totals, LENGTH(totals)) != PORTHWYNNA_DONE) {
-        fprintf(stderr, "%s: more than %d bytes\n", argv[1], PORTHWYNNA_LENGTH_LIMIT);
+    uint32_t reply = porthwynna_list(text, n, work, LENGTH(work), report, LENGTH(report), totals, LENGTH(totals));
+    if (reply != PORTHWYNNA_DONE) {
+        fprintf(stderr, "%s: %s\n", argv[1], porthwynna_reply_text(reply));
         return EXIT_FAILURE;
     }
-    printf("repetitions %lu comparisons %lu\n", (unsigned long)totals[0], (unsigned long)totals[1]);
-    for (const uint16_t *block = report; totals[0] > 0; totals[0]--, block += PORTHWYNNA_NUMBERS_PER_BLOCK)
-        printf("%d %d %d\n", block[0], block[1], block[2]);
+    size_t blocks = totals[PORTHWYNNA_LIST_BLOCKS];
+    printf("repetitions %zu comparisons %lu\n", blocks, (unsigned long)totals[PORTHWYNNA_LIST_COMPARISONS]);
+    for (size_t k = 0; k < blocks; k++) {
+        const uint16_t *block = report + k * PORTHWYNNA_NUMBERS_PER_BLOCK;
+        printf("%d %d %d\n", block[PORTHWYNNA_BLOCK_HALF], block[PORTHWYNNA_BLOCK_FIRST], block[PORTHWYNNA_BLOCK_LAST]);
+    }
     return fclose(stdout) == 0 ? EXIT_SUCCESS : fail("standard output");
 }

@@ -15,6 +15,10 @@
 #error "a limit is another in document 01"
 #endif
 
+#if PORTHWYNNA_LARGEST_WORK != 2 * 16384 || PORTHWYNNA_LARGEST_REPORT != 3 * 229376
+#error "document 01's examples give the largest work space and the largest report otherwise"
+#endif
+
 #define LIMIT PORTHWYNNA_LENGTH_LIMIT
 #define LENGTH(array) (sizeof(array) / sizeof *(array))
 #define TEXT(letters) .text = (const uint8_t *)letters, .n = sizeof letters - 1
@@ -157,13 +161,20 @@ static const struct call calls[] = {
 
 static int tried, wrong;
 
-static void expect(size_t call, const char *what, int right)
+static void expect(const char *what, int right)
 {
     tried++;
     if (!right) {
         wrong++;
-        printf("tests/c/calls.c: call %zu of the table: %s is wrong\n", call + 1, what);
+        printf("tests/c/calls.c: %s is wrong\n", what);
     }
+}
+
+static void expect_call(size_t call, const char *what, int right)
+{
+    expect(what, right);
+    if (!right)
+        printf("tests/c/calls.c: that was call %zu of the table\n", call + 1);
 }
 
 /* Memory for the lent buffers: BEFORE everywhere before a call, and GUARD numbers of it that are not lent on either side. */
@@ -248,12 +259,44 @@ static void try_call(size_t number, void *nothing)
     int works = answered && c->asked != STANDS && c->asked != ROOM;
     size_t room = c->report / PORTHWYNNA_NUMBERS_PER_BLOCK;
     size_t written = answered && c->asked == LIST ? (c->values[0] < room ? c->values[0] : room) : 0;
-    expect(number, "the reply", reply == c->reply);
-    expect(number, "the answer", answer_is(c->values, answered ? sizes[c->asked] : 0));
-    expect(number, "the report", report_is(c->blocks, written * PORTHWYNNA_NUMBERS_PER_BLOCK));
-    expect(number, "the work space", work_is_cleared(works ? PORTHWYNNA_WORK_PER_BYTE * c->n : 0));
-    expect(number, "the text", letters == 0 || memcmp(text, c->text, letters) == 0);
+    expect_call(number, "the reply", reply == c->reply);
+    expect_call(number, "the answer", answer_is(c->values, answered ? sizes[c->asked] : 0));
+    expect_call(number, "the report", report_is(c->blocks, written * PORTHWYNNA_NUMBERS_PER_BLOCK));
+    expect_call(number, "the work space", work_is_cleared(works ? PORTHWYNNA_WORK_PER_BYTE * c->n : 0));
+    expect_call(number, "the text", letters == 0 || memcmp(text, c->text, letters) == 0);
     free(text);
+}
+
+/* The names of a block's and an answer's numbers, on "abcabcab", whose first block is 3 1 2, with C 34 and the longest at 1. */
+static void try_names(void)
+{
+    enum { N = 8 };
+    const uint8_t *text = (const uint8_t *)"abcabcab";
+    uint16_t work[PORTHWYNNA_WORK_PER_BYTE * N], block[PORTHWYNNA_NUMBERS_PER_BLOCK];
+    uint32_t totals[PORTHWYNNA_LIST_ANSWER] = {0}, longest[PORTHWYNNA_LONGEST_ANSWER] = {0};
+    porthwynna_list(text, N, work, LENGTH(work), block, LENGTH(block), totals, LENGTH(totals));
+    porthwynna_longest(text, N, work, LENGTH(work), longest, LENGTH(longest));
+    expect("the places in a block", block[PORTHWYNNA_BLOCK_HALF] == 3 && block[PORTHWYNNA_BLOCK_FIRST] == 1 &&
+                                        block[PORTHWYNNA_BLOCK_LAST] == 2);
+    expect("the places in a list's answer",
+           totals[PORTHWYNNA_LIST_BLOCKS] == 2 && totals[PORTHWYNNA_LIST_COMPARISONS] == 34);
+    expect("the places in a longest repetition's answer",
+           longest[PORTHWYNNA_LONGEST_START] == 1 && longest[PORTHWYNNA_LONGEST_HALF] == 3);
+}
+
+/* Each reply has a text of its own, and so have, together, all numbers that are none. */
+static void try_texts(void)
+{
+    static const uint32_t replies[] = {PORTHWYNNA_DONE, PORTHWYNNA_TEXT_TOO_LONG, PORTHWYNNA_WORK_TOO_SHORT, PORTHWYNNA_FULL,
+                                       PORTHWYNNA_NO_SUCH_PLACE, PORTHWYNNA_ANSWER_TOO_SHORT, UINT32_MAX};
+    for (size_t i = 0; i < LENGTH(replies); i++) {
+        const char *text = porthwynna_reply_text(replies[i]);
+        int own = strlen(text) > 0;
+        for (size_t j = 0; j < i; j++)
+            own = own && strcmp(text, porthwynna_reply_text(replies[j])) != 0;
+        expect("a reply's text", own);
+    }
+    expect("the text of no reply", strcmp(porthwynna_reply_text(98), porthwynna_reply_text(UINT32_MAX)) == 0);
 }
 
 int main(void)
@@ -266,6 +309,9 @@ int main(void)
         try_call(i, NULL);
         try_call(i, (uint8_t *)work + 1); /* an odd address, where no number of 16 or 32 bits can stand */
     }
+    try_names();
+    try_texts();
+    expect("the version", porthwynna_version() == PORTHWYNNA_VERSION);
     printf("%d tried, %d wrong\n", tried, wrong);
     return wrong == 0 ? EXIT_SUCCESS : EXIT_FAILURE;
 }

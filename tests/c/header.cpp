@@ -18,7 +18,8 @@ int main()
         porthwynna_longest(text, n, work, 2 * n, longest, PORTHWYNNA_LONGEST_ANSWER) == PORTHWYNNA_DONE &&
         porthwynna_room(n, &room, PORTHWYNNA_ROOM_ANSWER) == PORTHWYNNA_DONE;
     const bool right = done && totals[0] == 4 && totals[1] == 10 && report[0] == 1 && report[11] == 2 && stands == 1 &&
-                       is_free == 0 && longest[0] == 0 && longest[1] == 2 && room == 8;
+                       is_free == 0 && longest[0] == 0 && longest[1] == 2 && room == 8 &&
+                       porthwynna_version() == PORTHWYNNA_VERSION && porthwynna_reply_text(PORTHWYNNA_DONE) != nullptr;
     std::printf("1 tried, %d wrong\n", right ? 0 : 1);
     return right ? 0 : 1;
 }

@@ -14,6 +14,9 @@
 
 mod call;
 pub mod sys;
+mod version;
+
+pub use version::Version;
 
 use std::error::Error;
 use std::fmt;
@@ -245,6 +248,16 @@ pub fn room(n: usize) -> Room {
         sys::TEXT_TOO_LONG => Room::TextTooLong,
         _ => unknown("room", reply),
     }
+}
+
+/// The version of the archive that the package is linked with. It never panics.
+///
+/// ```
+/// assert_eq!(porthwynna::version().to_string(), "0.2.0");
+/// ```
+#[must_use]
+pub fn version() -> Version {
+    call::version()
 }
 
 fn unknown(function: &str, reply: u32) -> ! {

@@ -1,13 +1,13 @@
 //! The library's functions as they are exported. A slice is a pointer and a length.
 //!
-//! Each gives a reply number and writes its values to the front of the lent answer, whose rest
-//! stays as before. [`ANSWER_TOO_SHORT`] is tried before everything else and leaves all memory as
-//! before.
+//! Each but [`porthwynna_version`] gives a reply number and writes its values to the front of the
+//! lent answer, whose rest stays as before. [`ANSWER_TOO_SHORT`] is tried before everything else
+//! and leaves all memory as before.
 //!
 //! # Safety
 //!
 //! Each pointer is that of a Rust slice of the length beside it, and a slice that may be written
-//! overlaps no other.
+//! overlaps no other. [`porthwynna_version`] takes no pointer and may be called at any time.
 
 /// The reply when the question is answered.
 pub const DONE: u32 = 0;
@@ -74,4 +74,8 @@ extern "C" {
     /// The blocks that the list of a text of n bytes may have, at most. Reply [`DONE`] writes one
     /// value; the other is [`TEXT_TOO_LONG`].
     pub fn porthwynna_room(n: usize, answer: *mut u32, answer_len: usize) -> u32;
+
+    /// The version that the library is built as, as one number: 10000 for each major version, 100
+    /// for each minor one, and the patch.
+    pub fn porthwynna_version() -> u32;
 }

@@ -78,6 +78,11 @@ pub fn version() -> Version {
     Version::from_number(unsafe { sys::porthwynna_version() })
 }
 
+/// Ends a call whose reply no contract allows.
+pub fn unknown(function: &str, reply: u32) -> ! {
+    unreachable!("porthwynna_{function} gave {reply}, which is none of its replies")
+}
+
 fn check_version() {
     static CHECKED: AtomicBool = AtomicBool::new(false);
     if CHECKED.load(Ordering::Relaxed) {

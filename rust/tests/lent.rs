@@ -2,7 +2,7 @@
 //! or a byte of the text that changed is a failure at once.
 
 use crate::reference::fast;
-use porthwynna::{sys, Freedom, Listing, Longest, Place, Room};
+use porthwynna::{sys, Refusal, Repetition};
 use std::fmt::Debug;
 
 /// Numbers on either side of lent memory.
@@ -157,9 +157,18 @@ impl Memory {
         }
     }
 
-    /// The same for a reply of the wrapper, with the values that the case holds.
-    fn after_wrapper(mut self, reply: u32, values: &[u32]) -> Outcome {
-        self.answer.inside()[..values.len()].copy_from_slice(values);
+    /// The same for a result of the wrapper, with the values that it holds.
+    fn after_wrapper<const N: usize>(mut self, result: Result<[u32; N], Refusal>) -> Outcome {
+        let (reply, values) = match result {
+            Ok(values) => (0, values.to_vec()),
+            Err(Refusal::TextTooLong) => (1, vec![]),
+            Err(Refusal::WorkTooShort) => (2, vec![]),
+            Err(Refusal::Full { totals, .. }) => (3, vec![totals.blocks, totals.comparisons]),
+            Err(Refusal::NoSuchPlace) => (4, vec![]),
+            Err(refusal) => panic!("{refusal:?} is none of document 01's"),
+        };
+        assert_eq!(result.map_or_else(|refusal| refusal.number(), |_| 0), reply);
+        self.answer.inside()[..values.len()].copy_from_slice(&values);
         self.after(reply)
     }
 }
@@ -187,12 +196,8 @@ pub fn list_by_wrapper(text: &[u8], lengths: Lengths) -> Outcome {
     let Memory {
         text, work, report, ..
     } = &mut lent;
-    match porthwynna::list(text.inside(), work.inside(), report.inside()) {
-        Listing::Finished(totals) => lent.after_wrapper(0, &[totals.blocks, totals.comparisons]),
-        Listing::Full(totals) => lent.after_wrapper(3, &[totals.blocks, totals.comparisons]),
-        Listing::TextTooLong => lent.after_wrapper(1, &[]),
-        Listing::WorkTooShort => lent.after_wrapper(2, &[]),
-    }
+    let result = porthwynna::lent::list(text.inside(), work.inside(), report.inside());
+    lent.after_wrapper(result.map(|totals| [totals.blocks, totals.comparisons]))
 }
 
 pub fn list_by_fast(text: &[u8], lengths: Lengths) -> Outcome {
@@ -224,12 +229,8 @@ pub fn stands(text: &[u8], start: u64, half: u64, lengths: Lengths) -> Outcome {
 
 pub fn stands_by_wrapper(text: &[u8], start: u64, half: u64, lengths: Lengths) -> Outcome {
     let mut lent = Memory::new(text, lengths);
-    match porthwynna::stands(lent.text.inside(), start, half) {
-        Place::Stands => lent.after_wrapper(0, &[1]),
-        Place::DoesNotStand => lent.after_wrapper(0, &[0]),
-        Place::TextTooLong => lent.after_wrapper(1, &[]),
-        Place::NoSuchPlace => lent.after_wrapper(4, &[]),
-    }
+    let result = porthwynna::stands(lent.text.inside(), start, half);
+    lent.after_wrapper(result.map(|yes| [yes.into()]))
 }
 
 pub fn is_free(text: &[u8], lengths: Lengths) -> Outcome {
@@ -250,12 +251,8 @@ pub fn is_free(text: &[u8], lengths: Lengths) -> Outcome {
 
 pub fn is_free_by_wrapper(text: &[u8], lengths: Lengths) -> Outcome {
     let mut lent = Memory::new(text, lengths);
-    match porthwynna::is_free(lent.text.inside(), lent.work.inside()) {
-        Freedom::Free => lent.after_wrapper(0, &[1]),
-        Freedom::NotFree => lent.after_wrapper(0, &[0]),
-        Freedom::TextTooLong => lent.after_wrapper(1, &[]),
-        Freedom::WorkTooShort => lent.after_wrapper(2, &[]),
-    }
+    let result = porthwynna::lent::is_free(lent.text.inside(), lent.work.inside());
+    lent.after_wrapper(result.map(|yes| [yes.into()]))
 }
 
 pub fn longest(text: &[u8], lengths: Lengths) -> Outcome {
@@ -276,12 +273,13 @@ pub fn longest(text: &[u8], lengths: Lengths) -> Outcome {
 
 pub fn longest_by_wrapper(text: &[u8], lengths: Lengths) -> Outcome {
     let mut lent = Memory::new(text, lengths);
-    match porthwynna::longest(lent.text.inside(), lent.work.inside()) {
-        Longest::Found { start, half } => lent.after_wrapper(0, &[start as u32, half as u32]),
-        Longest::Nothing => lent.after_wrapper(0, &[0, 0]),
-        Longest::TextTooLong => lent.after_wrapper(1, &[]),
-        Longest::WorkTooShort => lent.after_wrapper(2, &[]),
-    }
+    let result = porthwynna::lent::longest(lent.text.inside(), lent.work.inside());
+    // No repetition has half 0, so that 0 and 0 are free for "none".
+    let numbers = |longest: Repetition| {
+        assert_ne!(longest.half, 0);
+        [longest.start as u32, longest.half as u32]
+    };
+    lent.after_wrapper(result.map(|longest| longest.map_or([0, 0], numbers)))
 }
 
 pub fn room(n: usize, lengths: Lengths) -> Outcome {
@@ -293,8 +291,5 @@ pub fn room(n: usize, lengths: Lengths) -> Outcome {
 
 pub fn room_by_wrapper(n: usize, lengths: Lengths) -> Outcome {
     let lent = Memory::new(&[], lengths);
-    match porthwynna::room(n) {
-        Room::Blocks(blocks) => lent.after_wrapper(0, &[blocks]),
-        Room::TextTooLong => lent.after_wrapper(1, &[]),
-    }
+    lent.after_wrapper(porthwynna::room(n).map(|blocks| [blocks as u32]))
 }

@@ -10,6 +10,8 @@ mod reference {
 }
 mod texts;
 
+#[cfg(feature = "std")]
+mod allocating;
 mod damaged_calls;
 mod every_text;
 mod examples;

@@ -23,7 +23,7 @@ extern "C" {
 
 /* The version of this header. */
 #define PORTHWYNNA_VERSION_MAJOR 0
-#define PORTHWYNNA_VERSION_MINOR 2
+#define PORTHWYNNA_VERSION_MINOR 1
 #define PORTHWYNNA_VERSION_PATCH 0
 /* The three as one number: 10000 for each major version, 100 for each minor one, and the patch. */
 #define PORTHWYNNA_VERSION \

@@ -147,7 +147,7 @@ pub fn room(n: usize) -> Result<usize, Refusal> {
 /// The version of the archive that the package is linked with. It never panics.
 ///
 /// ```
-/// assert_eq!(porthwynna::version().to_string(), "0.2.0");
+/// assert_eq!(porthwynna::version().to_string(), env!("CARGO_PKG_VERSION"));
 /// ```
 #[must_use]
 pub fn version() -> Version {

@@ -6,8 +6,8 @@ use core::fmt;
 ///
 /// ```
 /// let version = porthwynna::version();
-/// assert_eq!((version.major, version.minor, version.patch), (0, 2, 0));
-/// assert_eq!(version.to_string(), "0.2.0");
+/// assert_eq!(version.to_string(), env!("CARGO_PKG_VERSION"));
+/// assert_eq!(version.major, 0);
 /// ```
 #[derive(Clone, Copy, Debug, PartialEq, Eq, PartialOrd, Ord, Hash)]
 #[non_exhaustive]

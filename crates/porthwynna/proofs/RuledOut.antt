@@ -116,13 +116,13 @@ module _ {answer-left answer-left′ : List ℕ} {r r′ : ℕ} (e : answer-left
   unfolding free-test handed-back
   free-not-constant x y = omega (arith, first-is (x .hands-back) e, first-is (y .hands-back) refl)
 
--- ---- a version that is the one before, 0.1.0, or that has minor version and patch swapped
+-- ---- a version that is 0, or that has minor version and patch swapped
 
 module _ {r : ℕ} (x : VersionCall r) where
-  pub version-not-before : r ≡ version-number 0 1 0 → ⊥
+  pub version-not-0 : r ≡ 0 → ⊥
   unfolding version-number
-  version-not-before e = omega (arith, x .built-as, e)
+  version-not-0 e = omega (arith, x .built-as, e)
 
-  pub version-not-swapped : r ≡ version-number 0 0 2 → ⊥
+  pub version-not-swapped : r ≡ version-number 0 0 1 → ⊥
   unfolding version-number
   version-not-swapped e = omega (arith, x .built-as, e)

@@ -7,4 +7,4 @@ version-number major minor patch = 10000 * major + 100 * minor + patch
 
 -- the version that the library is built as, which the file VERSION has in words
 abbrev pub version : ℕ
-version = version-number 0 2 0
+version = version-number 0 1 0

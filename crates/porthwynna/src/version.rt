@@ -2,6 +2,6 @@
 
 pub const MAJOR: u32 = 0;
 
-pub const MINOR: u32 = 2;
+pub const MINOR: u32 = 1;
 
 pub const PATCH: u32 = 0;

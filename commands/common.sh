@@ -32,7 +32,8 @@ say() {
   printf '%s\n' "$1" 2>/dev/null || fail 'standard output could not be written'
 }
 
-# build FILE WHAT COMMAND..: makes target/FILE by the command of the toolchain, if it is not there yet or its source has changed.
+# build FILE WHAT COMMAND..: makes target/FILE by the command of the toolchain, if it is not there yet or its source has changed. It
+# counts as made when the command began, so that what changes meanwhile is seen the next time.
 build() {
   file=$top/target/$1
   what=$2
@@ -40,10 +41,12 @@ build() {
   if [ -f "$file" ] && [ -z "$(find "$top/crates" "$top/crates.txt" -newer "$file" -print -quit)" ]; then
     return
   fi
-  command -v rt >/dev/null 2>&1 || fail "the command rt is not on the path (README.md, 'The toolchain')"
+  command -v rt >/dev/null 2>&1 || fail "the command rt is not on the path (README.md, 'What you need')"
   echo "$name: proving and building $what; the first time takes a few minutes" >&2
   mkdir -p "$top/target" || fail "the folder $top/target could not be made"
   log=$top/target/$name.log
+  began=$top/target/$name.began
+  : >"$began" || fail "$began could not be written"
   (cd "$top" && "$@") >"$log" 2>&1 </dev/null || fail "$what was not built: see $log"
-  touch "$file"
+  touch -r "$began" "$file"
 }

@@ -1,5 +1,6 @@
-// The C interface: an exported function for each entry of the finder. The result is document 01's number of the reply, and the
-// reply's values go to the front of the answer that the caller lends. An answer too short for them is refused before all else.
+// The C interface: an exported function for each entry of the finder, and one for the version. An entry's result is document 01's
+// number of the reply, and the reply's values go to the front of the answer that the caller lends. An answer too short for them is
+// refused before all else.
 mod answer;
 mod number;
 mod version;

@@ -1,5 +1,7 @@
 // Runs the examples of document 01, and more at the same edges, on the compiled finder: a line for each says what was asked and
 // what came back. A report is full of 7 and a work space of 9 before the call, so that what is kept can be seen.
+#![tactic(auto)]
+
 mod ask;
 mod long;
 mod say;

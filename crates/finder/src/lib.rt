@@ -1,5 +1,7 @@
 // The finder of repetitions. Its entries ask nothing of their caller: what they can't do they refuse, and a refusal for the
 // text or the work space changes no lent memory.
+#![tactic(auto)]
+
 mod depth;
 mod letters;
 mod parts;
@@ -14,7 +16,7 @@ ghost use Rattle.finder.specs.Promises.{ListPromise, PlacePromise, FreePromise, 
 use crate::reply::{Freedom, Listing, Longest, Place, Room, Totals};
 use crate::search::Searched;
 
-#[derive(Drop)]
+#[derive(Clone, Copy)]
 pub struct Finder {}
 
 impl Finder {

@@ -11,7 +11,7 @@ use crate::tally::Tally;
 use tables::CutPart;
 
 // The letters from a place up to another, which is not in it.
-#[derive(Drop)]
+#[derive(Clone, Copy)]
 pub struct Part {
     pub from: usize,
     pub to: usize,

@@ -8,14 +8,14 @@ use crate::tally;
 use crate::tally::{Block, Tally};
 use tables::CutPart;
 
-#[derive(Drop)]
+#[derive(Clone, Copy)]
 pub enum Class {
     Right,
     Left,
 }
 
 // How far letters agree with those a half length on: so many back from a place, and so many on from it.
-#[derive(Drop)]
+#[derive(Clone, Copy)]
 pub struct Reach {
     pub place: usize,
     pub back: usize,

@@ -1,12 +1,12 @@
 // What the entries answer. specs/Replies.antt has document 01's number and values of each case.
-#[derive(Drop)]
+#[derive(Clone, Copy)]
 pub struct Totals {
     pub blocks: u32,
     pub comparisons: u32,
 }
 
 // The list of a text.
-#[derive(Drop)]
+#[derive(Clone, Copy)]
 pub enum Listing {
     Finished(Totals),
     // There are more blocks than the report has room for: the totals of the full list.
@@ -16,7 +16,7 @@ pub enum Listing {
 }
 
 // The test of one place.
-#[derive(Drop)]
+#[derive(Clone, Copy)]
 pub enum Place {
     Stands,
     DoesNotStand,
@@ -26,7 +26,7 @@ pub enum Place {
 }
 
 // The test whether a text is free of repetitions.
-#[derive(Drop)]
+#[derive(Clone, Copy)]
 pub enum Freedom {
     Free,
     NotFree,
@@ -35,7 +35,7 @@ pub enum Freedom {
 }
 
 // The longest repetition.
-#[derive(Drop)]
+#[derive(Clone, Copy)]
 pub enum Longest {
     Found { start: usize, half: usize },
     Nothing,
@@ -44,7 +44,7 @@ pub enum Longest {
 }
 
 // How many blocks the list of a text may have, at most.
-#[derive(Drop)]
+#[derive(Clone, Copy)]
 pub enum Room {
     Blocks(u32),
     TextTooLong,

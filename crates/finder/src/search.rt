@@ -9,7 +9,7 @@ use crate::parts::Part;
 use crate::tally::Tally;
 use crate::{Finder, letters, parts};
 
-#[derive(Drop)]
+#[derive(Clone, Copy)]
 pub enum Searched {
     Found(Tally),
     TextTooLong,

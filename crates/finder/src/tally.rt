@@ -5,7 +5,7 @@ ghost use Rattle.finder.specs.Kept.{no_tally, the_block, counted, compared, with
 use crate::Finder;
 
 // Blocks and comparisons so far, and half and start of the longest repetition so far. A half of 0: there is none yet.
-#[derive(Drop)]
+#[derive(Clone, Copy)]
 pub struct Tally {
     pub blocks: u32,
     pub comparisons: u32,
@@ -14,7 +14,7 @@ pub struct Tally {
 }
 
 // All starts from first to last, with one half length.
-#[derive(Drop)]
+#[derive(Clone, Copy)]
 pub struct Block {
     pub half: usize,
     pub first: usize,

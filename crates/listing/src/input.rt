@@ -2,7 +2,7 @@
 ghost use Rattle.std.specs.Prelude.{◌≤◌, length};
 ghost use Rattle.listing.specs.Buffers.{ReadFrom, ReadInto};
 
-#[derive(Drop)]
+#[derive(Clone, Copy)]
 pub enum Input {
     // The text's length.
     Text(usize),

@@ -1,5 +1,7 @@
 // The listing program: prints the list of all repetitions of standard input, as document 01 has it under "Examples".
 // It reads to the end of the input, or to the first byte past its limit, before it prints anything.
+#![tactic(auto)]
+
 mod input;
 mod letters;
 mod output;

@@ -1,6 +1,8 @@
 // The C interface: an exported function for each entry of the finder, and one for the version. An entry's result is document 01's
 // number of the reply, and the reply's values go to the front of the answer that the caller lends. An answer too short for them is
 // refused before all else.
+#![tactic(auto)]
+
 mod answer;
 mod number;
 mod version;

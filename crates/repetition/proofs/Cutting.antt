@@ -116,7 +116,7 @@ unfolding how_many belongs
 in_one_part a b s p =
     parts_ind (λ x y qs. how_many (λ q. belongs q s p) qs ≡ one_if (leb 1 p && leb x s && leb (s + 2 * p) y))
     (λ x y h. none_in_small x y s p _ _ h refl refl)
-    (λ x y h u v. rw (total-append, u, v, other_way (s + 2 * p) (cut x y), other_way (cut x y) s)
+    (λ x y h u v. rw (total-append (λ q. one_if (belongs q s p)) _ _, u, v, other_way (s + 2 * p) (cut x y), other_way (cut x y) s)
     (one_of_three x y (cut x y) s p _ _ (cut_inside x y h) refl refl))
     a b
 
@@ -140,7 +140,7 @@ parts_total f k a b d each h =
           let w = cut_inside x y l in
           let z = cut_halves x y (2 ^ n) (omega arith) in
           let e : y - x ≡ (cut x y - x) + (y - cut x y) = omega arith in
-          rw total-append
+          rw (total-append f _ _)
           (omega (
             arith,
             each (record { from = x; to = y }) i j l,

@@ -16,3 +16,4 @@
 // 7  the longest: greatest half, met first, there if any is      longest_is, longest_first, longest_there     Longest
 // 8  blocks written are read back, the rest is as before         list_read, leading_read, beyond_kept         Reports
 //    the starred examples of document 01                         starred_examples                             Examples
+#![tactic(auto)]

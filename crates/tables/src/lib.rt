@@ -1,5 +1,7 @@
 // The match tables of a part: the one function that looks at the letters, the scan, the walk that fills a table, and here the
 // four tables of a part in the work space. The letters are a text's, and after them the same letters reversed.
+#![tactic(auto)]
+
 mod look;
 mod walk;
 
@@ -20,7 +22,7 @@ pub fn cut_at(from: usize, to: usize) -> usize
 }
 
 // A part, and where it is cut.
-#[derive(Drop)]
+#[derive(Clone, Copy)]
 pub struct CutPart {
     pub from: usize,
     pub cut: usize,

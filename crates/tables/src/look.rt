@@ -3,7 +3,7 @@ ghost use Rattle.std.specs.Prelude.{◌≡◌, ◌+◌, ◌<◌, ◌^◌, length
 ghost use Rattle.tables.specs.Looks.{looked, CanScan, scan_of};
 
 // What a look tells, and the count of looks with this one in it.
-#[derive(Drop)]
+#[derive(Clone, Copy)]
 pub struct Looked {
     pub equal: bool,
     pub count: u32,
@@ -21,7 +21,7 @@ pub fn look(letters: &[u16], i: usize, j: usize, count: u32) -> Looked
 }
 
 // A match length, and the count of looks with the scan's in it.
-#[derive(Drop)]
+#[derive(Clone, Copy)]
 pub struct Scanned {
     pub len: usize,
     pub count: u32,

@@ -8,14 +8,14 @@ ghost use Rattle.tables.specs.Progress.{Walked, Seeking, GoesOn};
 use crate::look;
 
 // So many letters from a place on.
-#[derive(Drop)]
+#[derive(Clone, Copy)]
 pub struct Piece {
     pub from: usize,
     pub size: usize,
 }
 
 // A table to be filled, and its place in the work space: the entry of position i is the number at + i.
-#[derive(Drop)]
+#[derive(Clone, Copy)]
 pub struct TableAt {
     pub pattern: Piece,
     pub walked: Piece,
@@ -53,7 +53,7 @@ pub fn against(walked: Piece, pattern: Piece, own: usize, at: usize) -> TableAt
 }
 
 // The record, a position k and an end e, and what the walk has cost so far.
-#[derive(Drop)]
+#[derive(Clone, Copy)]
 pub struct Walk {
     pub k: usize,
     pub e: usize,
@@ -62,7 +62,7 @@ pub struct Walk {
 
 // Where a walk stops, at its end or for a scan: the position, how many letters are known to be the same there, and what the walk
 // has cost so far.
-#[derive(Drop)]
+#[derive(Clone, Copy)]
 pub struct Stop {
     pub i: usize,
     pub known: usize,

@@ -6,7 +6,7 @@ use crate::counts;
 use finder::Finder;
 use std::num::wrapping_add_u64;
 
-#[derive(Drop)]
+#[derive(Clone, Copy)]
 pub struct Block {
     pub half: u16,
     pub first: u16,

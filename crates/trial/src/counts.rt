@@ -1,7 +1,7 @@
 // What is counted. A count wraps past 64 bits, which no run comes near.
 use std::num::wrapping_add_u64;
 
-#[derive(Drop)]
+#[derive(Clone, Copy)]
 pub struct Counts {
     pub texts: u64,
     pub places: u64,

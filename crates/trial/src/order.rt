@@ -15,7 +15,7 @@ const LEFT_PIECE: usize = 2;
 // What comes last: those of its right piece.
 const RIGHT_PIECE: usize = 3;
 
-#[derive(Drop)]
+#[derive(Clone, Copy)]
 struct Repetition {
     start: u16,
     half: u16,

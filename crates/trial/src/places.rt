@@ -9,7 +9,7 @@ use finder::reply::Place;
 use std::num::wrapping_add_u64;
 
 // What was seen at the places of a text.
-#[derive(Drop)]
+#[derive(Clone, Copy)]
 pub struct Seen {
     pub places: u64,
     pub repetitions: u64,

@@ -22,7 +22,7 @@ fn spell(number: usize, alphabet: &[u8], text: &mut [u8]) -> bool {
     rest == 0
 }
 
-#[derive(Drop)]
+#[derive(Clone, Copy)]
 enum Tried {
     Text(Counts),
     NoSuchText,

@@ -1,0 +1,10 @@
+-- The first i numbers are 0. The measure is the numbers left.
+use Rattle.std.proofs.Common.{◌≡◌, ◌-◌, ◌≤◌, length}
+use Rattle.finder.proofs.Clearing.{clear_to}
+use Rattle.finder.proofs.search.clear.Given as goal
+
+abbrev pub invariant-loop-i : goal.invariant-loop-i
+invariant-loop-i l = (l.work ≡ clear_to l.i l.initial.work) × (l.i ≤ length l.initial.work)
+
+abbrev pub decreases-loop-i : goal.decreases-loop-i
+decreases-loop-i l = length l.initial.work - l.i

@@ -32,13 +32,15 @@ say() {
   printf '%s\n' "$1" 2>/dev/null || fail 'standard output could not be written'
 }
 
-# build FILE WHAT COMMAND..: makes target/FILE by the command of the toolchain, if it is not there yet or its source has changed. It
-# counts as made when the command began, so that what changes meanwhile is seen the next time.
+# build CRATE FILE WHAT COMMAND..: makes crates/CRATE/out/FILE by the command of the toolchain, called in the crate's folder without
+# input, if it is not there yet or its source has changed. It counts as made when the command began, so that what changes meanwhile is
+# seen the next time. Leaves the file's path in `file`.
 build() {
-  file=$top/target/$1
-  what=$2
-  shift 2
-  if [ -f "$file" ] && [ -z "$(find "$top/crates" "$top/crates.txt" -newer "$file" -print -quit)" ]; then
+  crate=$top/crates/$1
+  file=$crate/out/$2
+  what=$3
+  shift 3
+  if [ -f "$file" ] && [ -z "$(newer_source "$file")" ]; then
     return
   fi
   command -v rt >/dev/null 2>&1 || fail "the command rt is not on the path (README.md, 'What you need')"
@@ -47,6 +49,12 @@ build() {
   log=$top/target/$name.log
   began=$top/target/$name.began
   : >"$began" || fail "$began could not be written"
-  (cd "$top" && "$@") >"$log" 2>&1 </dev/null || fail "$what was not built: see $log"
+  (cd "$crate" && "$@") >"$log" 2>&1 </dev/null || fail "$what was not built: see $log"
   touch -r "$began" "$file"
+}
+
+# newer_source FILE: prints a path of the crates' source that is newer than the file, if there is one. What is made in crates/NAME/out is
+# no source; and whenever that folder comes and goes, crates/NAME is newer, which says nothing of the source.
+newer_source() {
+  (cd "$top" && find crates crates.txt -regex 'crates/[^/]*/out' -prune -o -newer "$1" ! -regex 'crates/[^/]*' -print -quit)
 }

@@ -1,6 +1,6 @@
 //! Links the archive of the proved finder, from the folder in `PORTHWYNNA_LIB_DIR` or else from
-//! where `rt staticlib porthwynna` puts it. A relative folder counts from this package's folder,
-//! since cargo doesn't tell where it was called.
+//! where `rt lib`, run in crates/porthwynna, puts it. A relative folder counts from this package's
+//! folder, since cargo doesn't tell where it was called.
 
 use std::env;
 use std::fs;
@@ -29,14 +29,14 @@ fn link() -> Result<(), String> {
     let named = env::var_os("PORTHWYNNA_LIB_DIR");
     let folder = match &named {
         Some(folder) => package.join(folder),
-        None => top.join("target/staticlib"),
+        None => top.join("crates/porthwynna/out"),
     };
     let archive = folder.join("libporthwynna.a");
     println!("cargo::rerun-if-changed={}", archive.display());
     if !archive.is_file() {
         let reason = match named {
             Some(_) => "PORTHWYNNA_LIB_DIR names its folder",
-            None => "`rt staticlib porthwynna`, run at the repository's top, makes it",
+            None => "`rt lib`, run in crates/porthwynna, makes it",
         };
         return Err(format!("There is no {}: {reason}.", archive.display()));
     }
@@ -51,8 +51,8 @@ fn link() -> Result<(), String> {
 /// Says so where the archive is older than its source, which lies beside the package in the
 /// repository.
 fn warn_if_old(archive: &Path, top: &Path) {
-    let source = ["crates", "crates.txt"].map(|name| top.join(name));
-    for path in source.iter().filter(|path| path.exists()) {
+    let source = source(top);
+    for path in &source {
         println!("cargo::rerun-if-changed={}", path.display());
     }
     let made = fs::metadata(archive).and_then(|archive| archive.modified());
@@ -60,8 +60,8 @@ fn warn_if_old(archive: &Path, top: &Path) {
     if let (Ok(made), Some((changed, file))) = (made, newest_of_source) {
         if changed > made {
             println!(
-                "cargo::warning={} is older than {}: `rt staticlib porthwynna`, run at the \
-                 repository's top, makes it anew.",
+                "cargo::warning={} is older than {}: `rt lib`, run in crates/porthwynna, makes it \
+                 anew.",
                 archive.display(),
                 file.display()
             );
@@ -69,15 +69,26 @@ fn warn_if_old(archive: &Path, top: &Path) {
     }
 }
 
+/// What the archive is made from: crates.txt, and what the folders of the crates have in them but
+/// for `out`, where what is made of it lies.
+fn source(top: &Path) -> Vec<PathBuf> {
+    let crates = entries(&top.join("crates"));
+    let parts = crates.iter().flat_map(|folder| entries(folder));
+    let source = parts.filter(|path| !path.ends_with("out"));
+    let list = top.join("crates.txt");
+    source.chain(list.exists().then_some(list)).collect()
+}
+
+fn entries(folder: &Path) -> Vec<PathBuf> {
+    let entries = fs::read_dir(folder).into_iter().flatten().flatten();
+    entries.map(|entry| entry.path()).collect()
+}
+
 /// Time and path of the file here, or of the newest file in the folder here and below.
 fn newest(path: PathBuf) -> Option<(SystemTime, PathBuf)> {
     let metadata = fs::symlink_metadata(&path).ok()?;
     if metadata.is_dir() {
-        let entries = fs::read_dir(path).ok()?;
-        entries
-            .flatten()
-            .filter_map(|entry| newest(entry.path()))
-            .max()
+        entries(&path).into_iter().filter_map(newest).max()
     } else {
         Some((metadata.modified().ok()?, path))
     }

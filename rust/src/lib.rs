@@ -43,10 +43,11 @@
 //!
 //! # The archive
 //!
-//! The package links `libporthwynna.a`, for x86-64 Linux: the one that `rt staticlib porthwynna`
-//! has made in the repository's `target/staticlib`, or the one in the folder that the variable
-//! `PORTHWYNNA_LIB_DIR` names while cargo builds. A relative folder counts from the package's own
-//! folder. The first call panics where the archive is of another version than the package.
+//! The package links `libporthwynna.a`, for x86-64 Linux: the one that `rt lib`, run in the
+//! repository's `crates/porthwynna`, has made in the folder `out` there, or the one in the folder
+//! that the variable `PORTHWYNNA_LIB_DIR` names while cargo builds. A relative folder counts from
+//! the package's own folder. The first call panics where the archive is of another version than
+//! the package.
 #![no_std]
 #![deny(missing_docs)]
 #![deny(unsafe_code)]

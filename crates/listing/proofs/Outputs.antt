@@ -5,7 +5,7 @@ use mathlib.Core.List.{List, ◌++◌, flat_map}
 use native.Mathlib.Nat.{zero-add}
 use native.Mathlib.Omega.{arith}
 use lib.ListN.{length, take, length-append, length-drop}
-use lib.Seq.{length-take-le, sets-eq}
+use lib.Seq.{length-take-le, sets, sets-eq}
 use borrow.Author.Tests.{le-leb, lt-leb, lt-ltb, le-ltb}
 use Rattle.repetition.specs.Blocks.{list_of}
 use Rattle.repetition.specs.Comparisons.{comparisons}
@@ -100,3 +100,11 @@ module _ (t : List ℕ) where
           let f = grounds.full.0 (ap listing_number e) in
           let v = ((demand_1 t work report r work_left report_left promise).leading (ap listing_number e)).values in
           rw (output_full (omega (arith, room_is, f.2)), (totals_are t a (ap listing_values (sym e) ∙ v)).0)
+
+-- what is put for a longer text: src/output.rt names both laws, and no answer names the test, which a must-fail edit turns
+pub over_refused : (t out : List ℕ) → text_limit < length t → 10 ≤ length out → over (output t) out ≡ sets out 0 refused_1
+unfolding over
+over_refused t out l m = rw (output_too_long t l) (sym (sets-eq refused_1 out 0 m))
+
+pub size_refused : (t : List ℕ) → text_limit < length t → length (output t) ≡ 10
+size_refused t l = ap length (output_too_long t l)

@@ -1,5 +1,6 @@
 // The listing program: prints the list of all repetitions of standard input, as document 01 has it under "Examples".
-// It reads to the end of the input, or to the first byte past its limit, before it prints anything.
+// It reads to the end of the input, or to the first byte past its limit, before it prints anything. A read or a write that fails
+// ends it with an error, which names the stream.
 #![tactic(auto)]
 
 mod input;

@@ -1,5 +1,5 @@
 // Tries the finder on many short texts, against a check of its own that goes letter by letter, and for the order of the list
-// piece by piece. The line of a run says what was tried and how many answers disagreed.
+// piece by piece. The line of a run says what was tried and how many answers disagreed. A failed write ends it.
 #![tactic(auto)]
 
 mod blocks;

@@ -2,107 +2,114 @@
 use crate::say;
 use finder::Finder;
 use finder::reply::{Freedom, Listing, Longest, Place, Room, Totals};
+use std::io;
 
-fn say_totals(reply: &[u8], totals: Totals) {
-    say::words(reply);
-    say::count(b", blocks ", totals.blocks as u64, b", ");
-    say::count(b"comparisons ", totals.comparisons as u64, b"");
+fn say_totals(rt: &impl Print, reply: &[u8], totals: Totals) -> io::Result<()> {
+    say::words(rt, reply)?;
+    say::count(rt, b", blocks ", totals.blocks as u64, b", ")?;
+    say::count(rt, b"comparisons ", totals.comparisons as u64, b"")
 }
 
-fn say_listing(listing: Listing) {
+fn say_listing(rt: &impl Print, listing: Listing) -> io::Result<()> {
     match listing {
-        Listing::Finished(totals) => say_totals(b": reply 0", totals),
-        Listing::TextTooLong => say::words(b": reply 1"),
-        Listing::WorkTooShort => say::words(b": reply 2"),
-        Listing::Full(totals) => say_totals(b": reply 3", totals),
+        Listing::Finished(totals) => say_totals(rt, b": reply 0", totals),
+        Listing::TextTooLong => say::words(rt, b": reply 1"),
+        Listing::WorkTooShort => say::words(rt, b": reply 2"),
+        Listing::Full(totals) => say_totals(rt, b": reply 3", totals),
     }
 }
 
 // What a text and a work space of so many numbers are asked.
-fn say_asked(question: &[u8], name: &[u8], work: usize) {
-    say::words(question);
-    say::words(name);
-    say::count(b", work of ", work as u64, b"");
+fn say_asked(rt: &impl Print, question: &[u8], name: &[u8], work: usize) -> io::Result<()> {
+    say::words(rt, question)?;
+    say::words(rt, name)?;
+    say::count(rt, b", work of ", work as u64, b"")
 }
 
 // What the work space holds afterwards.
-fn say_work(work: &[u16]) {
-    say::words(b"; work");
-    say::runs(work);
-    say::words(b"\n");
+fn say_work(rt: &impl Print, work: &[u16]) -> io::Result<()> {
+    say::words(rt, b"; work")?;
+    say::runs(rt, work)?;
+    say::words(rt, b"\n")
 }
 
 // The list, with all that report and work space hold afterwards.
-pub fn list(name: &[u8], text: &[u8], work: &mut [u16], report: &mut [u16]) {
-    say_asked(b"list ", name, work.len());
-    say::count(b", report of ", report.len() as u64, b"");
+pub fn list(
+    rt: &impl Print,
+    name: &[u8],
+    text: &[u8],
+    work: &mut [u16],
+    report: &mut [u16],
+) -> io::Result<()> {
+    say_asked(rt, b"list ", name, work.len())?;
+    say::count(rt, b", report of ", report.len() as u64, b"")?;
     let listing = Finder::list(text, work, report);
-    say_listing(listing);
-    say::words(b"; report");
-    say::numbers(report);
-    say_work(work);
+    say_listing(rt, listing)?;
+    say::words(rt, b"; report")?;
+    say::numbers(rt, report)?;
+    say_work(rt, work)
 }
 
-fn say_place(place: Place) {
+fn say_place(rt: &impl Print, place: Place) -> io::Result<()> {
     match place {
-        Place::Stands => say::words(b": reply 0, yes\n"),
-        Place::DoesNotStand => say::words(b": reply 0, no\n"),
-        Place::TextTooLong => say::words(b": reply 1\n"),
-        Place::NoSuchPlace => say::words(b": reply 4\n"),
+        Place::Stands => say::words(rt, b": reply 0, yes\n"),
+        Place::DoesNotStand => say::words(rt, b": reply 0, no\n"),
+        Place::TextTooLong => say::words(rt, b": reply 1\n"),
+        Place::NoSuchPlace => say::words(rt, b": reply 4\n"),
     }
 }
 
-pub fn stands(name: &[u8], text: &[u8], start: u64, half: u64) {
-    say::words(b"place in ");
-    say::words(name);
-    say::count(b", start ", start, b", ");
-    say::count(b"half ", half, b"");
-    say_place(Finder::stands(text, start, half));
+pub fn stands(rt: &impl Print, name: &[u8], text: &[u8], start: u64, half: u64) -> io::Result<()> {
+    say::words(rt, b"place in ")?;
+    say::words(rt, name)?;
+    say::count(rt, b", start ", start, b", ")?;
+    say::count(rt, b"half ", half, b"")?;
+    say_place(rt, Finder::stands(text, start, half))
 }
 
-fn say_freedom(freedom: Freedom) {
+fn say_freedom(rt: &impl Print, freedom: Freedom) -> io::Result<()> {
     match freedom {
-        Freedom::Free => say::words(b": reply 0, yes"),
-        Freedom::NotFree => say::words(b": reply 0, no"),
-        Freedom::TextTooLong => say::words(b": reply 1"),
-        Freedom::WorkTooShort => say::words(b": reply 2"),
+        Freedom::Free => say::words(rt, b": reply 0, yes"),
+        Freedom::NotFree => say::words(rt, b": reply 0, no"),
+        Freedom::TextTooLong => say::words(rt, b": reply 1"),
+        Freedom::WorkTooShort => say::words(rt, b": reply 2"),
     }
 }
 
-pub fn is_free(name: &[u8], text: &[u8], work: &mut [u16]) {
-    say_asked(b"free ", name, work.len());
+pub fn is_free(rt: &impl Print, name: &[u8], text: &[u8], work: &mut [u16]) -> io::Result<()> {
+    say_asked(rt, b"free ", name, work.len())?;
     let freedom = Finder::is_free(text, work);
-    say_freedom(freedom);
-    say_work(work);
+    say_freedom(rt, freedom)?;
+    say_work(rt, work)
 }
 
-fn say_longest(longest: Longest) {
+fn say_longest(rt: &impl Print, longest: Longest) -> io::Result<()> {
     match longest {
         Longest::Found { start, half } => {
-            say::count(b": reply 0, start ", start as u64, b", ");
-            say::count(b"half ", half as u64, b"");
+            say::count(rt, b": reply 0, start ", start as u64, b", ")?;
+            say::count(rt, b"half ", half as u64, b"")
         }
-        Longest::Nothing => say::words(b": reply 0, none"),
-        Longest::TextTooLong => say::words(b": reply 1"),
-        Longest::WorkTooShort => say::words(b": reply 2"),
+        Longest::Nothing => say::words(rt, b": reply 0, none"),
+        Longest::TextTooLong => say::words(rt, b": reply 1"),
+        Longest::WorkTooShort => say::words(rt, b": reply 2"),
     }
 }
 
-pub fn longest(name: &[u8], text: &[u8], work: &mut [u16]) {
-    say_asked(b"longest ", name, work.len());
+pub fn longest(rt: &impl Print, name: &[u8], text: &[u8], work: &mut [u16]) -> io::Result<()> {
+    say_asked(rt, b"longest ", name, work.len())?;
     let longest = Finder::longest(text, work);
-    say_longest(longest);
-    say_work(work);
+    say_longest(rt, longest)?;
+    say_work(rt, work)
 }
 
-fn say_room(room: Room) {
+fn say_room(rt: &impl Print, room: Room) -> io::Result<()> {
     match room {
-        Room::Blocks(blocks) => say::count(b": reply 0, blocks ", blocks as u64, b"\n"),
-        Room::TextTooLong => say::words(b": reply 1\n"),
+        Room::Blocks(blocks) => say::count(rt, b": reply 0, blocks ", blocks as u64, b"\n"),
+        Room::TextTooLong => say::words(rt, b": reply 1\n"),
     }
 }
 
-pub fn room(n: usize) {
-    say::count(b"room for ", n as u64, b"");
-    say_room(Finder::room(n));
+pub fn room(rt: &impl Print, n: usize) -> io::Result<()> {
+    say::count(rt, b"room for ", n as u64, b"")?;
+    say_room(rt, Finder::room(n))
 }

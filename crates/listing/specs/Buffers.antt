@@ -1,7 +1,6 @@
 -- What the contracts say of buffers: letters that are read into one, and letters that are put into one.
 use Rattle.std.specs.Prelude.{ℕ, ◌+◌, ◌≤◌, ◌≡◌, List, length}
 use Rattle.std.proofs.lemmas.List.Edits.{sets}
-use Rattle.io.specs.Counts.{IsPrefixLen}
 use Rattle.listing.specs.declared.input.Input.{Input}
 use Rattle.listing.specs.declared.input.Input.TheVariants as input
 
@@ -18,12 +17,12 @@ pub record Put (buffer : List ℕ) (at n : ℕ) (letters : List ℕ) (end : ℕ)
 -- the text so far had n letters, has more or as many, and at most as many as there is room for
 abbrev pub ReadFrom : ℕ → ℕ → Input → Type 0
 ReadFrom n room (input.Text m) = (n ≤ m) × (m ≤ room)
-ReadFrom n room input.Failed = Unit {0}
+ReadFrom n room (input.Failed e) = Unit {0}
 
 -- the text lies in the buffer
 abbrev pub ReadInto : List ℕ → Input → Type 0
-ReadInto buffer (input.Text n) = IsPrefixLen n buffer
-ReadInto buffer input.Failed = Unit {0}
+ReadInto buffer (input.Text n) = n ≤ length buffer
+ReadInto buffer (input.Failed e) = Unit {0}
 
 -- letters that a number of 16 bits and one of 32 bits have at most, with the one after it
 abbrev pub number_room : ℕ

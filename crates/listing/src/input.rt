@@ -2,35 +2,35 @@
 ghost use Rattle.std.specs.Prelude.{◌≤◌, length};
 ghost use Rattle.listing.specs.Buffers.{ReadFrom, ReadInto};
 
+use std::io::{Error, Read};
+
 #[derive(Clone, Copy)]
 pub enum Input {
     // The text's length.
     Text(usize),
-    Failed,
+    Failed(Error),
 }
 
 // Reads once, after the n bytes that were read before.
-fn read_more(fd: i32, buffer: &mut [u8], n: usize) -> Input
+fn read_more<R: Read>(reader: &mut R, buffer: &mut [u8], n: usize) -> Input
     requires { n ≤ length buffer.old }
     ensures { ReadFrom n (length buffer.old) result }
 {
-    let rest = &mut buffer[n..];
-    let got = libc::read(fd, rest);
-    if got < 0 {
-        return Input::Failed;
+    match reader.read(&mut buffer[n..]) {
+        Ok(got) => Input::Text(n + got),
+        Err(error) => Input::Failed(error),
     }
-    Input::Text(n + io::count(got, rest))
 }
 
 // Reads until the input ends or the buffer is full, in as many pieces as it comes in.
-pub fn read_text(fd: i32, buffer: &mut [u8]) -> Input
+pub fn read_text<R: Read>(reader: &mut R, buffer: &mut [u8]) -> Input
     ensures { ReadInto buffer.new result }
 {
     let mut n = 0;
     while n < buffer.len() {
-        let more = read_more(fd, buffer, n);
+        let more = read_more(reader, buffer, n);
         match more {
-            Input::Failed => return Input::Failed,
+            Input::Failed(error) => return Input::Failed(error),
             Input::Text(m) => {
                 if m == n {
                     return Input::Text(n);

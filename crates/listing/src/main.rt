@@ -1,5 +1,6 @@
 // The listing program: prints the list of all repetitions of standard input, as document 01 has it under "Examples".
-// It reads to the end of the input, or to the first byte past its limit, before it prints anything.
+// It reads to the end of the input, or to the first byte past its limit, before it prints anything. A read or a write that fails
+// ends it with an error, which names the stream.
 #![tactic(auto)]
 
 mod input;
@@ -7,20 +8,22 @@ mod letters;
 mod output;
 
 use crate::input::Input;
-use libc::{STDIN_FILENO, STDOUT_FILENO};
+use anyhow::bail;
+use std::io::Write;
 
-fn main() {
+fn main(rt: HostRuntime) -> anyhow::Result<()> {
     // One byte more than a text may have, by which a longer input is known.
     let mut text = [0u8; output::TEXT_LIMIT + 1];
-    let read = input::read_text(STDIN_FILENO, &mut text);
+    let read = input::read_text(&mut rt.stdin(), &mut text);
     match read {
-        Input::Failed => os::fail(b"standard input"),
+        Input::Failed(error) => bail!("standard input: {error}"),
         Input::Text(n) => {
             let mut out = [0u8; output::ROOM];
             let end = output::put_output(&text[..n], &mut out);
-            if !io::write_all(STDOUT_FILENO, &out[..end]) {
-                os::fail(b"standard output");
+            if let Err(error) = rt.stdout().write_all(&out[..end]) {
+                bail!("standard output: {error}");
             }
+            Ok(())
         }
     }
 }

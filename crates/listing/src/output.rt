@@ -60,6 +60,7 @@ fn put_header(out: &mut [u8], totals: Totals) -> usize
 }
 
 // Puts the whole output for a text at the front of the buffer.
+#[tactic(auto, using(crate::proofs::Outputs::size_refused, crate::proofs::Outputs::over_refused))]
 pub fn put_output(text: &[u8], out: &mut [u8]) -> usize
     requires { Room out.old 0 output_room }
     ensures { OutputPromise text.now out.old result out.new }

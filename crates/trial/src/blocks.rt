@@ -1,6 +1,5 @@
 // The listed blocks, read from a report: half, first start and last start of each.
-ghost use Rattle.std.specs.Prelude.{◌/◌, ◌<◌, length};
-ghost use Rattle.io.specs.Counts.{IsPrefixLen};
+ghost use Rattle.std.specs.Prelude.{◌/◌, ◌<◌, ◌≤◌, length};
 
 use crate::counts;
 use finder::Finder;
@@ -29,7 +28,7 @@ impl Block {
 }
 
 pub fn block_at(list: &[u16], place: usize) -> Block
-    requires* { do ⌜ place < length list.now / (← ⟦Finder::NUMBERS_PER_BLOCK⟧) ⌝ }
+    requires { place < length list.now / Finder.NUMBERS_PER_BLOCK }
 {
     let at = Finder::NUMBERS_PER_BLOCK * place;
     Block {
@@ -41,7 +40,7 @@ pub fn block_at(list: &[u16], place: usize) -> Block
 
 // So many numbers, and no more than the space has.
 pub fn at_most(numbers: usize, space: &[u16]) -> usize
-    ensures { IsPrefixLen result space.now }
+    ensures { result ≤ length space.now }
 {
     if numbers <= space.len() {
         numbers
@@ -52,7 +51,7 @@ pub fn at_most(numbers: usize, space: &[u16]) -> usize
 
 // The numbers of a report that so many blocks take.
 pub fn numbers_of(blocks: u32, report: &[u16]) -> usize
-    ensures { IsPrefixLen result report.now }
+    ensures { result ≤ length report.now }
 {
     at_most(Finder::NUMBERS_PER_BLOCK * blocks as usize, report)
 }

@@ -106,8 +106,14 @@ length-tables_left t limit =
 
 -- ---- a small part: nothing is found, and all is left as it was
 
+pub found_none : (t : List ℕ) (k : Kept) (a b : ℕ) → b - a < 2 → found_all t k (parts a b) ≡ k
+found_none t k a b l = none_over (found t) k a b l
+
+pub tables_none : (t work : List ℕ) (a b : ℕ) → b - a < 2 → tables_left t work (parts a b) ≡ work
+tables_none t work a b l = none_over (λ w q. with_tables t q w) work a b l
+
 pub none_found : {t work report : List ℕ} {y : Tally} (a b : ℕ) → b - a < 2 → Finds t work report (parts a b) y y work report
-none_found a b l = record { keeps = sym (none_over _ _ a b l); leaves_work = sym (none_over _ _ a b l) }
+none_found a b l = record { keeps = sym (found_none _ _ a b l); leaves_work = sym (tables_none _ _ a b l) }
 
 -- ---- the way from a part to its pieces
 

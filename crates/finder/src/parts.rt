@@ -41,6 +41,7 @@ fn find_part(
 }
 
 // Finds the blocks of a part and of its pieces, down to one letter, and counts their comparisons.
+#[tactic(auto, using(crate::proofs::Finds::found_none, crate::proofs::Finds::tables_none))]
 pub fn find(
     letters: &[u16],
     work: &mut [u16],

@@ -53,6 +53,7 @@ fn search_whole(text: &[u8], work: &mut [u16], report: &mut [u16]) -> Tally
     search_letters(text, &mut buffer, work, report)
 }
 
+#[tactic(auto, using(crate::proofs::Searches::searched_long, crate::proofs::Searches::searched_short))]
 pub fn search(text: &[u8], work: &mut [u16], report: &mut [u16]) -> Searched
     ensures { searched result work.new report.new
         ≡ searching text.now work.old report.old }

@@ -46,6 +46,7 @@ impl Tally {
     }
 
     // With one block more.
+    #[tactic(auto, unfolding(crate::specs::Kept::counted))]
     pub fn counted(self, block: Block) -> Tally
         requires { self.blocks + 1 < 2 ^ 32 }
         ensures { result ≡ counted self (the_block block) }

@@ -8,16 +8,19 @@ use native.Mathlib.Omega.{arith}
 use lib.Dec.{ltb}
 use lib.ListN.{length, get_or, set, length-set}
 use lib.Seq.{get_or-set_same, get_or-set_other}
-use Rattle.repetition.specs.Tables.{match_at}
+use Rattle.repetition.specs.Tables.{match_at, itself}
 use Rattle.repetition.specs.Comparisons.{Walk, start, scanned, after, table_cost}
 use Rattle.repetition.specs.Limits.{length_limit}
 use Rattle.repetition.proofs.Walking.{table_cost_bound}
 use Rattle.tables.specs.declared.look.Looked.{Looked}
+use Rattle.tables.specs.declared.walk.Piece.{Piece}
 use Rattle.tables.specs.declared.walk.TableAt.{TableAt}
 use Rattle.tables.specs.declared.walk.Stop.{Stop}
+use Rattle.tables.specs.Letters.{read}
 use Rattle.tables.specs.Looks.{looked}
 use Rattle.tables.specs.Walks.{table_of, knowing, with_entry, with_table, Own, this, earlier, CanFill, Fills}
 use Rattle.tables.specs.Progress.{up_to, partly, Filled, Walked, Seeking, Stopped, Further}
+use Rattle.tables.proofs.Letters.{length-read}
 use Rattle.tables.proofs.Walks.{length_walked, tells, cost_fits, asks, can_read, free_next, stop_there}
 use Rattle.tables.proofs.Walks.{Passed, passed, stop_at_match, stop_at_end}
 use Rattle.tables.proofs.Filled.{partly_none, partly_next}
@@ -250,3 +253,17 @@ module _ (s work₀ : List ℕ) (a : TableAt) (count : ℕ) (can : CanFill s wor
         counts = omega (arith, no_cost);
         leaves_work = partly_none (table_of s a) a.at (length (table_of s a).walked) work₀ (omega arith);
       }
+
+-- The table of a piece of one letter against itself has none: it costs nothing, and nothing is put in the work space.
+module _ (s : List ℕ) (p : Piece) (lies : p.from + p.size ≤ length s) (short : p.size < 2) where
+  pub one_letter_cost : table_cost (itself (read s p)) ≡ 0
+  unfolding table_cost after
+  one_letter_cost =
+      let long = length-read s p lies in
+      ap (λ (n : ℕ). (after (itself (read s p)) n).cost) {x = length (read s p) - 1} {y = 0} (omega arith)
+
+  pub one_letter_put : (at : ℕ) (work : List ℕ) → with_table (itself (read s p)) at work ≡ work
+  unfolding with_table partly
+  one_letter_put at work =
+      let long = length-read s p lies in
+      sym (partly_none (itself (read s p)) at (length (read s p)) work (omega arith))

@@ -195,6 +195,7 @@ pub fn fill(letters: &[u16], work: &mut [u16], table: TableAt, count: u32) -> u3
 }
 
 // Fills the table of a piece against itself. That of one letter has no position, which is seen before a walk is begun.
+#[tactic(auto, using(crate::proofs::Fills::one_letter_cost, crate::proofs::Fills::one_letter_put))]
 pub fn fill_itself(letters: &[u16], work: &mut [u16], piece: Piece, at: usize, count: u32) -> u32
     requires { CanFill letters.now work.old (itself_at piece at) count }
     ensures { Fills letters.now work.old (itself_at piece at) count result work.new }

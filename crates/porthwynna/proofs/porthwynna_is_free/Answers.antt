@@ -1,4 +1,5 @@
 -- `porthwynna::porthwynna_is_free` meets its contract. Assumes nothing.
+use Rattle.std.proofs.Common.{rules}
 use Rattle.porthwynna.proofs.Answers.{over_none}
 use Rattle.porthwynna.proofs.Calls.{free_short, free_call}
 use Rattle.porthwynna.proofs.porthwynna_is_free.Goals as goal
@@ -9,11 +10,11 @@ returns-then-answer-lt-YES_OR_NO c =
 
 pub returns-in-Free : goal.returns-in-Free
 returns-in-Free c =
-    free_call _ _ _ c.if-answer-lt-YES_OR_NO.false c.is_free-tested.ensures c.in-Free.is c.put_one.ensures
+    free_call _ _ _ c.if-answer-lt-YES_OR_NO.false c.is_free-tested.ensures c.in-Free.is (search rules)
 
 pub returns-in-NotFree : goal.returns-in-NotFree
 returns-in-NotFree c =
-    free_call _ _ _ c.if-answer-lt-YES_OR_NO.false c.is_free-tested.ensures c.in-NotFree.is c.put_one-in-NotFree.ensures
+    free_call _ _ _ c.if-answer-lt-YES_OR_NO.false c.is_free-tested.ensures c.in-NotFree.is (search rules)
 
 pub returns-in-TextTooLong : goal.returns-in-TextTooLong
 returns-in-TextTooLong c =

@@ -1,4 +1,5 @@
 -- `porthwynna::porthwynna_stands` meets its contract. Assumes nothing.
+use Rattle.std.proofs.Common.{rules}
 use Rattle.porthwynna.proofs.Answers.{over_none}
 use Rattle.porthwynna.proofs.Calls.{place_short, place_call}
 use Rattle.porthwynna.proofs.porthwynna_stands.Goals as goal
@@ -9,11 +10,11 @@ returns-then-answer-lt-YES_OR_NO c =
 
 pub returns-in-Stands : goal.returns-in-Stands
 returns-in-Stands c =
-    place_call _ _ _ _ c.if-answer-lt-YES_OR_NO.false c.stands-tested.ensures c.in-Stands.is c.put_one.ensures
+    place_call _ _ _ _ c.if-answer-lt-YES_OR_NO.false c.stands-tested.ensures c.in-Stands.is (search rules)
 
 pub returns-in-DoesNotStand : goal.returns-in-DoesNotStand
 returns-in-DoesNotStand c =
-    place_call _ _ _ _ c.if-answer-lt-YES_OR_NO.false c.stands-tested.ensures c.in-DoesNotStand.is c.put_one-in-DoesNotStand.ensures
+    place_call _ _ _ _ c.if-answer-lt-YES_OR_NO.false c.stands-tested.ensures c.in-DoesNotStand.is (search rules)
 
 pub returns-in-TextTooLong : goal.returns-in-TextTooLong
 returns-in-TextTooLong c =

@@ -20,7 +20,7 @@ fn clear(work: &mut [u16])
     ensures { work.new ≡ replicate (length work.old) 0 }
 {
     let mut i = 0;
-    while i < work.len() {
+    'numbers: while i < work.len() {
         work[i] = 0;
         i += 1;
     }

@@ -3,8 +3,8 @@ use Rattle.std.proofs.Common.{◌≡◌, ◌-◌, ◌≤◌, length}
 use Rattle.finder.proofs.Clearing.{clear_to}
 use Rattle.finder.proofs.search.clear.Given as goal
 
-abbrev pub invariant-loop-i : goal.invariant-loop-i
-invariant-loop-i l = (l.work ≡ clear_to l.i l.initial.work) × (l.i ≤ length l.initial.work)
+abbrev pub invariant-numbers : goal.invariant-numbers
+invariant-numbers l = (l.work ≡ clear_to l.i l.initial.work) × (l.i ≤ length l.initial.work)
 
-abbrev pub decreases-loop-i : goal.decreases-loop-i
-decreases-loop-i l = length l.initial.work - l.i
+abbrev pub decreases-numbers : goal.decreases-numbers
+decreases-numbers l = length l.initial.work - l.i

@@ -4,9 +4,10 @@ use mathlib.Core.Path.{◌≡◌, refl, sym, ap, ◌∙◌}
 use mathlib.Core.List.{List, ◌++◌, flat_map}
 use native.Mathlib.Nat.{zero-add}
 use native.Mathlib.Omega.{arith}
-use lib.ListN.{length, take, length-append, length-drop}
+use lib.ListN.{length, length-append, length-drop}
 use lib.Seq.{length-take-le, sets, sets-eq}
 use borrow.Author.Tests.{le-leb, lt-leb, lt-ltb, le-ltb}
+use Rattle.io.specs.Counts.{IsPrefixLen}
 use Rattle.repetition.specs.Blocks.{list_of}
 use Rattle.repetition.specs.Comparisons.{comparisons}
 use Rattle.repetition.specs.Limits.{numbers_per_block}
@@ -34,7 +35,7 @@ output_put {out = out} {xs = xs} e put l large =
 
 -- the output lies in the buffer
 pub output_inside : {t out : List ℕ} {r : ℕ} {out_left : List ℕ} → OutputPromise t out r out_left → length out_left ≡ length out
-    → (r ≤ length out_left) × (r ≡ length (take r out_left))
+    → IsPrefixLen r out_left
 unfolding over
 output_inside {t} {out} {r} {out_left} promise kept =
     let l : r ≤ length out_left = omega (arith, simp (length-append, length-drop) at (ap length promise.leaves_out)) in

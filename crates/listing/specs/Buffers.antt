@@ -1,6 +1,7 @@
 -- What the contracts say of buffers: letters that are read into one, and letters that are put into one.
 use Rattle.std.specs.Prelude.{ℕ, ◌+◌, ◌≤◌, ◌≡◌, List, length}
 use Rattle.std.proofs.lemmas.List.Edits.{sets}
+use Rattle.io.specs.Counts.{IsPrefixLen}
 use Rattle.listing.specs.declared.input.Input.{Input}
 use Rattle.listing.specs.declared.input.Input.TheVariants as input
 
@@ -21,7 +22,7 @@ ReadFrom n room (input.Failed e) = Unit {0}
 
 -- the text lies in the buffer
 abbrev pub ReadInto : List ℕ → Input → Type 0
-ReadInto buffer (input.Text n) = n ≤ length buffer
+ReadInto buffer (input.Text n) = IsPrefixLen n buffer
 ReadInto buffer (input.Failed e) = Unit {0}
 
 -- letters that a number of 16 bits and one of 32 bits have at most, with the one after it

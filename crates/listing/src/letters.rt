@@ -21,8 +21,8 @@ pub fn put_number(out: &mut [u8], at: usize, value: u32, letter: u8) -> usize
     ensures { Put out.old at (length (number value letter)) (number value letter) result out.new }
 {
     let mut digits = [0u8; 20];
-    let start = itoa::write_digits(value as u64, &mut digits, 20);
-    let end = put(out, at, &digits[start..]);
+    let k = io::decimal(value as u64, &mut digits);
+    let end = put(out, at, &digits[..k]);
     out[end] = letter;
     end + 1
 }

@@ -1,5 +1,6 @@
 // The listed blocks, read from a report: half, first start and last start of each.
-ghost use Rattle.std.specs.Prelude.{◌/◌, ◌<◌, ◌≤◌, length};
+ghost use Rattle.std.specs.Prelude.{◌/◌, ◌<◌, length};
+ghost use Rattle.io.specs.Counts.{IsPrefixLen};
 
 use crate::counts;
 use finder::Finder;
@@ -40,7 +41,7 @@ pub fn block_at(list: &[u16], place: usize) -> Block
 
 // So many numbers, and no more than the space has.
 pub fn at_most(numbers: usize, space: &[u16]) -> usize
-    ensures { result ≤ length space.now }
+    ensures { IsPrefixLen result space.now }
 {
     if numbers <= space.len() {
         numbers
@@ -51,7 +52,7 @@ pub fn at_most(numbers: usize, space: &[u16]) -> usize
 
 // The numbers of a report that so many blocks take.
 pub fn numbers_of(blocks: u32, report: &[u16]) -> usize
-    ensures { result ≤ length report.now }
+    ensures { IsPrefixLen result report.now }
 {
     at_most(Finder::NUMBERS_PER_BLOCK * blocks as usize, report)
 }

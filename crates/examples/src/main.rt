@@ -4,37 +4,43 @@
 
 mod ask;
 mod long;
+mod reply;
 mod say;
+mod text;
 
+use crate::text::Text::{Named, Word};
 use std::io;
 
 // Document 01's list examples. The work space has one number more than is needed, and the report three more than the blocks take.
 fn lists(rt: &impl Print) -> io::Result<()> {
-    ask::list(rt, b"\"\"", b"", &mut [9; 1], &mut [7; 3])?;
-    ask::list(rt, b"\"a\"", b"a", &mut [9; 3], &mut [7; 3])?;
-    ask::list(rt, b"\"aa\"", b"aa", &mut [9; 5], &mut [7; 6])?;
-    ask::list(rt, b"\"ab\"", b"ab", &mut [9; 5], &mut [7; 3])?;
-    ask::list(rt, b"\"aba\"", b"aba", &mut [9; 7], &mut [7; 3])?;
-    ask::list(rt, b"\"abab\"", b"abab", &mut [9; 9], &mut [7; 6])?;
-    ask::list(rt, b"\"aaaa\"", b"aaaa", &mut [9; 9], &mut [7; 15])?;
-    ask::list(rt, b"\"ababc\"", b"ababc", &mut [9; 11], &mut [7; 6])?;
-    ask::list(rt, b"\"abcabcab\"", b"abcabcab", &mut [9; 17], &mut [7; 9])
+    ask::list(rt, Word(""), &mut [9; 1], &mut [7; 3])?;
+    ask::list(rt, Word("a"), &mut [9; 3], &mut [7; 3])?;
+    ask::list(rt, Word("aa"), &mut [9; 5], &mut [7; 6])?;
+    ask::list(rt, Word("ab"), &mut [9; 5], &mut [7; 3])?;
+    ask::list(rt, Word("aba"), &mut [9; 7], &mut [7; 3])?;
+    ask::list(rt, Word("abab"), &mut [9; 9], &mut [7; 6])?;
+    ask::list(rt, Word("aaaa"), &mut [9; 9], &mut [7; 15])?;
+    ask::list(rt, Word("ababc"), &mut [9; 11], &mut [7; 6])?;
+    ask::list(rt, Word("abcabcab"), &mut [9; 17], &mut [7; 9])
 }
 
 // Texts full of 0 and of 255: no byte can serve as an end character.
 fn all_bytes(rt: &impl Print) -> io::Result<()> {
-    ask::list(rt, b"bytes 0 0 0 0", &[0; 4], &mut [9; 9], &mut [7; 15])?;
     ask::list(
         rt,
-        b"bytes 255 255 255 255",
-        &[255; 4],
+        Named("bytes 0 0 0 0", &[0; 4]),
         &mut [9; 9],
         &mut [7; 15],
     )?;
     ask::list(
         rt,
-        b"bytes 0 255 0 255",
-        &[0, 255, 0, 255],
+        Named("bytes 255 255 255 255", &[255; 4]),
+        &mut [9; 9],
+        &mut [7; 15],
+    )?;
+    ask::list(
+        rt,
+        Named("bytes 0 255 0 255", &[0, 255, 0, 255]),
         &mut [9; 9],
         &mut [7; 6],
     )
@@ -42,56 +48,56 @@ fn all_bytes(rt: &impl Print) -> io::Result<()> {
 
 // Reports and work spaces at the edge of too short.
 fn short_memory(rt: &impl Print) -> io::Result<()> {
-    ask::list(rt, b"\"aaaa\"", b"aaaa", &mut [9; 8], &mut [7; 12])?;
-    ask::list(rt, b"\"aaaa\"", b"aaaa", &mut [9; 8], &mut [7; 11])?;
-    ask::list(rt, b"\"aaaa\"", b"aaaa", &mut [9; 8], &mut [7; 7])?;
-    ask::list(rt, b"\"aaaa\"", b"aaaa", &mut [9; 8], &mut [7; 2])?;
-    ask::list(rt, b"\"aaaa\"", b"aaaa", &mut [9; 7], &mut [7; 12])?;
-    ask::list(rt, b"\"a\"", b"a", &mut [9; 1], &mut [7; 3])
+    ask::list(rt, Word("aaaa"), &mut [9; 8], &mut [7; 12])?;
+    ask::list(rt, Word("aaaa"), &mut [9; 8], &mut [7; 11])?;
+    ask::list(rt, Word("aaaa"), &mut [9; 8], &mut [7; 7])?;
+    ask::list(rt, Word("aaaa"), &mut [9; 8], &mut [7; 2])?;
+    ask::list(rt, Word("aaaa"), &mut [9; 7], &mut [7; 12])?;
+    ask::list(rt, Word("a"), &mut [9; 1], &mut [7; 3])
 }
 
 fn places(rt: &impl Print) -> io::Result<()> {
-    ask::stands(rt, b"\"abab\"", b"abab", 0, 2)?;
-    ask::stands(rt, b"\"abab\"", b"abab", 1, 1)?;
-    ask::stands(rt, b"\"abab\"", b"abab", 1, 2)?;
-    ask::stands(rt, b"\"abab\"", b"abab", 0, 0)?;
-    ask::stands(rt, b"\"abab\"", b"abab", 4, 0)?;
-    ask::stands(rt, b"\"\"", b"", 0, 1)
+    for (start, half) in [(0, 2), (1, 1), (1, 2), (0, 0), (4, 0)] {
+        ask::stands(rt, Word("abab"), start, half)?;
+    }
+    ask::stands(rt, Word(""), 0, 1)
 }
 
 // Starts and halves at the ends of 64 bits. In the third and fourth, start and twice the half add up to 0 and 4 past 64 bits.
 fn far_places(rt: &impl Print) -> io::Result<()> {
-    ask::stands(rt, b"\"abab\"", b"abab", u64::MAX, 1)?;
-    ask::stands(rt, b"\"abab\"", b"abab", 0, u64::MAX)?;
-    ask::stands(rt, b"\"abab\"", b"abab", 0, 1 << 63)?;
-    ask::stands(rt, b"\"abab\"", b"abab", u64::MAX - 1, 3)?;
-    ask::stands(rt, b"\"abab\"", b"abab", u64::MAX, u64::MAX)?;
-    ask::stands(rt, b"\"abab\"", b"abab", u64::MAX, 0)
+    for (start, half) in [
+        (u64::MAX, 1),
+        (0, u64::MAX),
+        (0, 1 << 63),
+        (u64::MAX - 1, 3),
+        (u64::MAX, u64::MAX),
+        (u64::MAX, 0),
+    ] {
+        ask::stands(rt, Word("abab"), start, half)?;
+    }
+    Ok(())
 }
 
 fn freedom(rt: &impl Print) -> io::Result<()> {
-    ask::is_free(rt, b"\"\"", b"", &mut [9; 1])?;
-    ask::is_free(rt, b"\"aa\"", b"aa", &mut [9; 5])?;
-    ask::is_free(rt, b"\"ab\"", b"ab", &mut [9; 5])?;
-    ask::is_free(rt, b"\"ab\"", b"ab", &mut [9; 3])
+    ask::is_free(rt, Word(""), &mut [9; 1])?;
+    ask::is_free(rt, Word("aa"), &mut [9; 5])?;
+    ask::is_free(rt, Word("ab"), &mut [9; 5])?;
+    ask::is_free(rt, Word("ab"), &mut [9; 3])
 }
 
 fn longest(rt: &impl Print) -> io::Result<()> {
-    ask::longest(rt, b"\"aa\"", b"aa", &mut [9; 5])?;
-    ask::longest(rt, b"\"ab\"", b"ab", &mut [9; 5])?;
-    ask::longest(rt, b"\"aaaa\"", b"aaaa", &mut [9; 9])?;
-    ask::longest(rt, b"\"abcabcab\"", b"abcabcab", &mut [9; 17])?;
-    ask::longest(rt, b"\"aa\"", b"aa", &mut [9; 3])
+    ask::longest(rt, Word("aa"), &mut [9; 5])?;
+    ask::longest(rt, Word("ab"), &mut [9; 5])?;
+    ask::longest(rt, Word("aaaa"), &mut [9; 9])?;
+    ask::longest(rt, Word("abcabcab"), &mut [9; 17])?;
+    ask::longest(rt, Word("aa"), &mut [9; 3])
 }
 
 fn rooms(rt: &impl Print) -> io::Result<()> {
-    ask::room(rt, 0)?;
-    ask::room(rt, 1)?;
-    ask::room(rt, 2)?;
-    ask::room(rt, 3)?;
-    ask::room(rt, 16_384)?;
-    ask::room(rt, 16_385)?;
-    ask::room(rt, usize::MAX)
+    for n in [0, 1, 2, 3, 16_384, 16_385, usize::MAX] {
+        ask::room(rt, n)?;
+    }
+    Ok(())
 }
 
 fn main(rt: HostRuntime) -> io::Result<()> {

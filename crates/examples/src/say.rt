@@ -1,62 +1,55 @@
-// What is printed on standard output: words, and numbers in decimal. A failed write ends it.
-ghost use Rattle.std.specs.Prelude.{◌≤◌, ◌<◌, length, IfOk};
+// How numbers are printed: each after a space, or, where they may be many, by their runs of equal ones.
+ghost use Rattle.std.specs.Prelude.{length};
+ghost use Rattle.std.specs.Iterator.{at_most};
 
-use std::io;
+use std::fmt;
 
-pub fn words(rt: &impl Print, words: &[u8]) -> io::Result<()> {
-    rt.write_all(words)
-}
+#[derive(Clone, Copy)]
+pub struct Numbers<'a>(pub &'a [u16]);
 
-// Words, a number and more words.
-pub fn count(rt: &impl Print, before: &[u8], count: u64, after: &[u8]) -> io::Result<()> {
-    words(rt, before)?;
-    rt.print(count)?;
-    words(rt, after)
-}
-
-fn spaced(rt: &impl Print, number: u16) -> io::Result<()> {
-    count(rt, b" ", number as u64, b"")
-}
-
-// Each number, after a space.
-pub fn numbers(rt: &impl Print, numbers: &[u16]) -> io::Result<()> {
-    for i in 0..numbers.len() {
-        spaced(rt, numbers[i])?;
+impl fmt::Display for Numbers<'_> {
+    fn fmt<W: fmt::Write>(&self, f: &mut fmt::Formatter<W>) -> fmt::Result {
+        for number in self.0 {
+            write!(f, " {number}")?;
+        }
+        Ok(())
     }
-    Ok(())
 }
 
-// Where the run of equal numbers ends that begins here.
-fn run_end(numbers: &[u16], start: usize) -> usize
-    requires { start < length numbers.now }
-    ensures { (start < result) × (result ≤ length numbers.now) }
-{
-    let mut end = start + 1;
-    while end < numbers.len() && numbers[end] == numbers[start] {
-        end += 1;
-    }
-    end
+// A number, and how often it stands in a row.
+#[derive(Clone, Copy)]
+pub struct Run {
+    times: usize,
+    number: u16,
 }
 
-// The run of equal numbers that begins here. Answers where it ends.
-fn run(rt: &impl Print, numbers: &[u16], start: usize) -> io::Result<usize>
-    requires { start < length numbers.now }
-    ensures { IfOk result (λ end. (start < end) × (end ≤ length numbers.now)) }
-{
-    let end = run_end(numbers, start);
-    if start != 0 {
-        words(rt, b",")?;
+#[derive(Clone, Copy)]
+pub struct Runs<'a>(pub &'a [u16]);
+
+impl Iterator for Runs<'_> {
+    type Item = Run;
+
+    ghost remaining = { λ s. at_most (length s.0.now) };
+
+    fn next(&mut self) -> Option<Run> {
+        let (first, rest) = self.0.split_first()?;
+        let more = rest.iter().take_while(|number| *number == first).count();
+        self.0 = &rest[more..];
+        Some(Run {
+            times: 1 + more,
+            number: *first,
+        })
     }
-    count(rt, b" ", (end - start) as u64, b" of")?;
-    spaced(rt, numbers[start])?;
-    Ok(end)
 }
 
-// Numbers that may be many, by their runs.
-pub fn runs(rt: &impl Print, numbers: &[u16]) -> io::Result<()> {
-    let mut at = 0;
-    while at < numbers.len() {
-        at = run(rt, numbers, at)?;
+impl fmt::Display for Runs<'_> {
+    fn fmt<W: fmt::Write>(&self, f: &mut fmt::Formatter<W>) -> fmt::Result {
+        for (i, run) in self.enumerate() {
+            if i != 0 {
+                write!(f, ",")?;
+            }
+            write!(f, " {} of {}", run.times, run.number)?;
+        }
+        Ok(())
     }
-    Ok(())
 }

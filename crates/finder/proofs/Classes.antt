@@ -1,44 +1,38 @@
 -- The blocks of a class, put half by half. Assumes nothing.
-use Prim.Native.Nat.{ℕ, ◌+◌, ◌≤◌, ◌<◌}
+use Prim.Native.Nat.{ℕ, ◌+◌, ◌≤◌}
 use mathlib.Core.Path.{◌≡◌, refl, sym, ap, ◌∙◌}
 use mathlib.Core.List.{List, [], ◌++◌, append-nil, foldl-append, flat_map}
 use native.Mathlib.Omega.{arith}
 use native.Mathlib.Nat.{add_comm}
 use lib.ListN.{length}
 use Rattle.repetition.specs.Numbers.{consecutive}
-use Rattle.repetition.specs.Limits.{length_limit}
 use Rattle.repetition.proofs.Lists.{flat_map-append, consecutive-append, length-flat_map, length-consecutive, total_bound}
 use Rattle.repetition.proofs.Bounds.{around_one}
 use Rattle.finder.specs.declared.tally.Tally.{Tally}
-use Rattle.tables.specs.declared.CutPart.{CutPart}
+use Rattle.finder.specs.declared.part_tables.PartTables.{PartTables}
 use Rattle.finder.specs.declared.reading.Class.{Class}
-use Rattle.finder.specs.declared.reading.Class.TheVariants.{Right, Left}
 use Rattle.finder.specs.Kept.{Kept, kept, put, put_all}
-use Rattle.finder.specs.Reading.{most_of, read_half, read_first, read_all}
-use Rattle.finder.specs.Reading.{WellCut, CanPutHalf, CanReadAll}
-use Rattle.finder.proofs.Puts.{length-put_all, blocks_put_all}
+use Rattle.finder.specs.Reading.{most_of, read_half, read_first}
+use Rattle.finder.specs.Reading.{CanReach, CanPutHalf, CanReadAll}
+use Rattle.finder.proofs.Puts.{blocks_put_all}
 
-pub most_limit : (q : CutPart) → WellCut q → (κ : Class) → most_of q κ ≤ length_limit
-most_limit q cut Right = omega (arith, cut)
-most_limit q cut Left = omega (arith, cut)
-
-module _ (work : List ℕ) (q : CutPart) (κ : Class) where
-  read_none : read_first work q κ 0 ≡ []
+module _ (T : PartTables) (κ : Class) where
+  read_none : read_first T κ 0 ≡ []
   unfolding read_first consecutive
   read_none = refl
 
-  read_next : (n : ℕ) → read_first work q κ (n + 1) ≡ read_first work q κ n ++ read_half work q κ (n + 1)
+  read_next : (n : ℕ) → read_first T κ (n + 1) ≡ read_first T κ n ++ read_half T κ (n + 1)
   unfolding read_first consecutive
   read_next n = rw (consecutive-append 1 n 1, flat_map-append, one_half (1 + n)) (rw (add_comm 1 n))
     where
-      one_half : (p : ℕ) → flat_map (read_half work q κ) (consecutive p 1) ≡ read_half work q κ p
+      one_half : (p : ℕ) → flat_map (read_half T κ) (consecutive p 1) ≡ read_half T κ p
       one_half p = append-nil _
 
-  pub read_size : (n : ℕ) → length (read_first work q κ n) ≤ n
+  pub read_size : (n : ℕ) → length (read_first T κ n) ≤ n
   unfolding read_first
   read_size n =
-      let e = length-flat_map (read_half work q κ) (consecutive 1 n) in
-      let l = total_bound (λ p. length (read_half work q κ p)) 1 (consecutive 1 n) (λ p. around_one _ p _ _) in
+      let e = length-flat_map (read_half T κ) (consecutive 1 n) in
+      let l = total_bound (λ p. length (read_half T κ p)) 1 (consecutive 1 n) (λ p. around_one _ p _ _) in
       omega (arith, e, l, length-consecutive 1 n)
 
   module _ (report₀ : List ℕ) (y₀ : Tally) where
@@ -46,39 +40,26 @@ module _ (work : List ℕ) (q : CutPart) (κ : Class) where
     pub record Put (half : ℕ) (report : List ℕ) (y : Tally) : Type 0 where
       pub halves : ℕ
       pub next : half ≡ halves + 1
-      pub most : halves ≤ most_of q κ
-      pub puts : kept report y ≡ put_all (kept report₀ y₀) (read_first work q κ halves)
+      pub most : halves ≤ most_of T κ
+      pub puts : kept report y ≡ put_all (kept report₀ y₀) (read_first T κ halves)
 
     pub put_starts : Put 1 report₀ y₀
     put_starts = record { halves = 0; next = refl; most = omega arith; puts = sym (ap (put_all (kept report₀ y₀)) read_none) }
 
-    module _ (can : CanReadAll work q κ y₀) {half : ℕ} {report : List ℕ} {y : Tally} (so_far : Put half report y) where
-      pub put_length : length report ≡ length report₀
-      put_length =
-          ap (λ (k : Kept). length k.report) so_far.puts
-          ∙ length-put_all (kept report₀ y₀) (read_first work q κ so_far.halves)
-
+    module _ (can : CanReadAll T κ y₀) {half : ℕ} {report : List ℕ} {y : Tally} (so_far : Put half report y) where
       put_blocks : y.blocks ≤ y₀.blocks + so_far.halves
       put_blocks =
-          let bs = read_first work q κ so_far.halves in
+          let bs = read_first T κ so_far.halves in
           let e = ap (λ (k : Kept). k.tally.blocks) so_far.puts ∙ blocks_put_all (kept report₀ y₀) bs in
           omega (arith, e, read_size so_far.halves)
 
-      pub put_half : half ≤ most_of q κ → CanPutHalf work q κ half y
+      pub put_half : half ≤ most_of T κ → CanPutHalf T κ half y
       put_half l =
-          record {
-            reaches =
-                record { well_cut = can.well_cut; room = can.room; nonempty = omega arith; most = l };
-            puts =
-                record {
-                  inside = can.inside half (omega arith) l;
-                  half_fits = omega (arith, most_limit q can.well_cut κ);
-                  counts = omega (arith, put_blocks, can.counts);
-                };
-          }
+          let reaches : CanReach T κ half = record { nonempty = omega arith; most = l } in
+          record { reaches = reaches; inside = can.inside half reaches; counts = omega (arith, put_blocks, can.counts) }
 
-      pub put_next : half ≤ most_of q κ → {report' : List ℕ} {y' : Tally}
-          → kept report' y' ≡ put_all (kept report y) (read_half work q κ half) → Put (half + 1) report' y'
+      pub put_next : half ≤ most_of T κ → {report' : List ℕ} {y' : Tally}
+          → kept report' y' ≡ put_all (kept report y) (read_half T κ half) → Put (half + 1) report' y'
       put_next l f =
           let n = so_far.halves in
           record {
@@ -87,10 +68,5 @@ module _ (work : List ℕ) (q : CutPart) (κ : Class) where
             most = omega arith;
             puts =
                 f ∙ rw (so_far.puts, so_far.next, read_next n)
-                (sym (foldl-append put (kept report₀ y₀) (read_first work q κ n) _));
+                (sym (foldl-append put (kept report₀ y₀) (read_first T κ n) _));
           }
-
-      pub put_ends : most_of q κ < half → kept report y ≡ put_all (kept report₀ y₀) (read_all work q κ)
-      put_ends l =
-          so_far.puts
-          ∙ ap (λ (m : ℕ). put_all (kept report₀ y₀) (read_first work q κ m)) {x = so_far.halves} {y = most_of q κ} (omega arith)

@@ -25,10 +25,7 @@ use Rattle.repetition.proofs.Bounds.{comparisons_bound, blocks_bound}
 use Rattle.repetition.proofs.Longest.{IsLongest, longest_is, longest_there}
 use Rattle.repetition.proofs.Reports.{fitting, leading_read, beyond_kept, list_read}
 use Rattle.finder.specs.declared.reply.Listing.{Listing}
-use Rattle.finder.specs.declared.reply.Place.{Place}
-use Rattle.finder.specs.declared.reply.Freedom.{Freedom}
-use Rattle.finder.specs.declared.reply.Longest.{Longest}
-use Rattle.finder.specs.declared.reply.Room.{Room}
+use Rattle.finder.specs.Replies.{Place, Freedom, Longest, Room}
 use Rattle.finder.specs.Replies.{reply, listing_number, listing_values, place_number, place_values}
 use Rattle.finder.specs.Replies.{freedom_number, freedom_values, longest_number, longest_values, room_number, room_values}
 use Rattle.finder.specs.Promises.{ListPromise, PlacePromise, FreePromise, LongestPromise, RoomPromise}

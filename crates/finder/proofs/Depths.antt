@@ -1,41 +1,24 @@
 -- The search of the table of limits. Assumes nothing.
-use Prim.Native.Nat.{ℕ, suc, ◌+◌, ◌≤◌, ◌<◌}
-use mathlib.Core.Path.{◌≡◌, sym, ◌∙◌}
-use native.Mathlib.Omega.{arith, by_contra}
-use native.Mathlib.Nat.{zero-add, add-zero}
-use native.Mathlib.Numerals.{add-one}
-use borrow.Author.Tests.{le-leb, lt-leb}
-use lib.ListN.{length, get_or, drop}
-use lib.Seq.{drop-cons}
-use Rattle.repetition.specs.Limits.{limits, length_limit, first_at_least, depth}
+use Prim.Native.Nat.{ℕ, suc, ◌+◌}
+use mathlib.Core.Path.{◌≡◌, refl, sym, ◌∙◌}
+use mathlib.Core.Bool.{Bool, true, false, cond}
+use mathlib.Core.List.{List}
+use Rattle.std.specs.Prelude.{Option, Some}
+use Rattle.std.specs.List.{position, position_or_len}
+use Rattle.std.proofs.lemmas.Option.{cond_some}
+use Rattle.std.proofs.lemmas.List.Recursion.{is_position_or_len}
+use native.Mathlib.Omega.{arith}
+use lib.Dec.{leb}
+use Rattle.repetition.specs.Limits.{limits, first_at_least, depth}
 
--- the first places of the table have limits below n
-pub record Passed (n place : ℕ) : Type 0 where
-  pub within : place < length limits
-  pub rest : depth n ≡ place + first_at_least n (drop place limits)
+cond_is : (b : Bool) (m : ℕ) → elim b [ true ↦ 0 | false ↦ suc m ] ≡ cond b 0 (1 + m)
+cond_is true m = refl
+cond_is false m = omega arith
 
-pub none_passed : (n : ℕ) → Passed n 0
+first_is : (n : ℕ) (ls : List ℕ) → first_at_least n ls ≡ position_or_len (λ l. leb n l) ls
+unfolding first_at_least
+first_is n = is_position_or_len (first_at_least n) (λ l. leb n l) refl (λ l ls. cond_is (leb n l) (first_at_least n ls))
+
+pub depth_found : (n place : ℕ) (found : Option ℕ) → found ≡ position (λ l. leb n l) limits → found ≡ Some place → place ≡ depth n
 unfolding depth
-none_passed n = record { within = omega arith; rest = sym (zero-add _) }
-
-pub pass : (n place : ℕ) → n ≤ length_limit → Passed n place → get_or limits place 0 < n → Passed n (place + 1)
-unfolding first_at_least
-pass n place l w h =
-    record {
-      within = by_contra (suc (place + 1)) (length limits) (λ over. last_stops (place_last over));
-      rest =
-          w.rest
-          ∙ rw (drop-cons limits place 0 w.within, lt-leb n (get_or limits place 0) h, first_at_least)
-          (rw add-one (omega arith));
-    }
-  where
-    place_last : length limits < suc (place + 1) → place ≡ 14
-    place_last over = omega (arith, w)
-
-    last_stops : place ≡ 14 → ⊥
-    last_stops e = omega (arith, l, rw e at h)
-
-pub stop : (n place : ℕ) → Passed n place → n ≤ get_or limits place 0 → place ≡ depth n
-unfolding first_at_least
-stop n place w h =
-    sym (w.rest ∙ rw (drop-cons limits place 0 w.within, le-leb n (get_or limits place 0) h, first_at_least) (add-zero place))
+depth_found n place found e f = sym (first_is n limits ∙ (cond_some _ _ _ (sym e ∙ f)).1)

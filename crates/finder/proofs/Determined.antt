@@ -1,22 +1,21 @@
 -- Every entry's outcome is determined by its promise: any two outcomes that meet it are equal. Assumes nothing.
 use Prim.Native.Nat.{ℕ, zero, suc}
 use mathlib.Core.Path.{◌≡◌, refl, sym, ap, ◌∙◌}
-use mathlib.Core.Bool.{cond}
+use mathlib.Core.Bool.{Bool, true, false}
 use mathlib.Core.List.{List, [], ◌∷◌}
 use lib.Dec.{eqb}
 use lib.ListN.{get_or}
+use Rattle.std.specs.Prelude.{Option, None, Some, Result, Ok, Err}
 use Rattle.repetition.specs.Outcomes.{Reply}
 use Rattle.finder.specs.declared.reply.Totals.{Totals}
 use Rattle.finder.specs.declared.reply.Listing.{Listing}
 use Rattle.finder.specs.declared.reply.Listing.TheVariants as listing
-use Rattle.finder.specs.declared.reply.Place.{Place}
-use Rattle.finder.specs.declared.reply.Place.TheVariants as place
-use Rattle.finder.specs.declared.reply.Freedom.{Freedom}
-use Rattle.finder.specs.declared.reply.Freedom.TheVariants as freedom
-use Rattle.finder.specs.declared.reply.Longest.{Longest}
-use Rattle.finder.specs.declared.reply.Longest.TheVariants as longest
-use Rattle.finder.specs.declared.reply.Room.{Room}
-use Rattle.finder.specs.declared.reply.Room.TheVariants as room
+use Rattle.finder.specs.declared.reply.Repetition.{Repetition}
+use Rattle.finder.specs.declared.reply.Refusal.{Refusal}
+use Rattle.finder.specs.declared.reply.Refusal.TheVariants as refusal
+use Rattle.finder.specs.declared.reply.PlaceRefusal.{PlaceRefusal}
+use Rattle.finder.specs.declared.reply.PlaceRefusal.TheVariants as place
+use Rattle.finder.specs.Replies.{Place, Freedom, Longest, Room}
 use Rattle.finder.specs.Replies.{reply, listing_number, listing_values, place_number, place_values}
 use Rattle.finder.specs.Replies.{freedom_number, freedom_values, longest_number, longest_values, room_number, room_values}
 use Rattle.finder.specs.Promises.{ListPromise, PlacePromise, FreePromise, LongestPromise, RoomPromise}
@@ -45,49 +44,59 @@ listing_again (listing.Full a) = refl
 listing_again listing.TextTooLong = refl
 listing_again listing.WorkTooShort = refl
 
--- yes is the value 1 and no the value 0 under number 0; number 1 is one refusal, and the other has a number above it
-abbrev answer_from : {A : Type 0} (yes_is no_is first second : A) → ℕ → List ℕ → A
-answer_from yes_is no_is first second zero vs = cond (eqb (get_or vs 0 0) 1) yes_is no_is
-answer_from yes_is no_is first second (suc zero) vs = first
-answer_from yes_is no_is first second (suc (suc n)) vs = second
+-- Number 0 is an answer, told by the values. Each number above it is a refusal, told by the one below.
+abbrev from_reply : {A E : Type 0} → (List ℕ → A) → (ℕ → E) → ℕ → List ℕ → Result A E
+from_reply answer refusal zero vs = Ok (answer vs)
+from_reply answer refusal (suc n) vs = Err (refusal n)
+
+abbrev refusal_from : ℕ → Refusal
+refusal_from zero = refusal.TextTooLong
+refusal_from (suc n) = refusal.WorkTooShort
+
+abbrev place_refusal_from : ℕ → PlaceRefusal
+place_refusal_from zero = place.TextTooLong
+place_refusal_from (suc n) = place.NoSuchPlace
+
+abbrev yes_from : List ℕ → Bool
+yes_from vs = eqb (get_or vs 0 0) 1
 
 abbrev place_from : ℕ → List ℕ → Place
-place_from = answer_from place.Stands place.DoesNotStand place.TextTooLong place.NoSuchPlace
+place_from = from_reply yes_from place_refusal_from
 
 place_again : (r : Place) → place_from (place_number r) (place_values r) ≡ r
-place_again place.Stands = refl
-place_again place.DoesNotStand = refl
-place_again place.TextTooLong = refl
-place_again place.NoSuchPlace = refl
+place_again (Ok true) = refl
+place_again (Ok false) = refl
+place_again (Err place.TextTooLong) = refl
+place_again (Err place.NoSuchPlace) = refl
 
 abbrev freedom_from : ℕ → List ℕ → Freedom
-freedom_from = answer_from freedom.Free freedom.NotFree freedom.TextTooLong freedom.WorkTooShort
+freedom_from = from_reply yes_from refusal_from
 
 freedom_again : (r : Freedom) → freedom_from (freedom_number r) (freedom_values r) ≡ r
-freedom_again freedom.Free = refl
-freedom_again freedom.NotFree = refl
-freedom_again freedom.TextTooLong = refl
-freedom_again freedom.WorkTooShort = refl
+freedom_again (Ok true) = refl
+freedom_again (Ok false) = refl
+freedom_again (Err refusal.TextTooLong) = refl
+freedom_again (Err refusal.WorkTooShort) = refl
+
+abbrev repetition_from : List ℕ → Option Repetition
+repetition_from [] = None
+repetition_from (s ∷ vs) = Some (record { start = s; half = get_or vs 0 0 })
 
 abbrev longest_from : ℕ → List ℕ → Longest
-longest_from zero [] = longest.Nothing
-longest_from zero (s ∷ vs) = longest.Found s (get_or vs 0 0)
-longest_from (suc zero) vs = longest.TextTooLong
-longest_from (suc (suc n)) vs = longest.WorkTooShort
+longest_from = from_reply repetition_from refusal_from
 
 longest_again : (r : Longest) → longest_from (longest_number r) (longest_values r) ≡ r
-longest_again (longest.Found s p) = refl
-longest_again longest.Nothing = refl
-longest_again longest.TextTooLong = refl
-longest_again longest.WorkTooShort = refl
+longest_again (Ok None) = refl
+longest_again (Ok (Some a)) = refl
+longest_again (Err refusal.TextTooLong) = refl
+longest_again (Err refusal.WorkTooShort) = refl
 
 abbrev room_from : ℕ → List ℕ → Room
-room_from zero vs = room.Blocks (get_or vs 0 0)
-room_from (suc n) vs = room.TextTooLong
+room_from = from_reply (λ vs. get_or vs 0 0) (λ n. record {})
 
 room_again : (r : Room) → room_from (room_number r) (room_values r) ≡ r
-room_again (room.Blocks n) = refl
-room_again room.TextTooLong = refl
+room_again (Ok n) = refl
+room_again (Err e) = refl
 
 -- ---- the entries
 

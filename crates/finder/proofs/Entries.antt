@@ -2,7 +2,7 @@
 use Prim.Native.Nat.{ℕ, zero, suc, ◌+◌, ◌*◌, ◌/◌, ◌≤◌, ◌<◌}
 use mathlib.Core.Path.{◌≡◌, refl, sym, ap, ◌∙◌}
 use mathlib.Core.Logic.{inl, inr}
-use mathlib.Core.Bool.{true≢false, Bool, true, false, ◌&&◌, cond, and-eq-true_iff}
+use mathlib.Core.Bool.{true≢false, Bool, true, false, ◌&&◌, not, cond, and-eq-true_iff}
 use mathlib.Core.List.{List, [], ◌∷◌, cons≢nil}
 use native.Mathlib.Nat.{mul-le-mul}
 use native.Mathlib.Omega.{arith}
@@ -10,6 +10,8 @@ use native.Mathlib.Decide.{dec_le}
 use borrow.Author.Tests.{le-leb, lt-leb, leb-true, ne_eqb}
 use lib.Dec.{leb, eqb}
 use lib.ListN.{length, get_or}
+use Rattle.std.specs.Prelude.{Option, None, Some, Ok, Err}
+use Rattle.std.specs.Option.{is_none, is_some}
 use Rattle.repetition.specs.Numbers.{one_if}
 use Rattle.repetition.specs.Repetition.{stands}
 use Rattle.repetition.specs.Blocks.{Block, list_of}
@@ -18,28 +20,23 @@ use Rattle.repetition.specs.Limits.{length_limit, greatest_depth, numbers_per_bl
 use Rattle.repetition.specs.Memory.{room}
 use Rattle.repetition.specs.Outcomes.{Reply, refusal, Listed, listing, listed, Asked}
 use Rattle.repetition.specs.Outcomes.{repetition_free, free_test, longest_of, longest_in, longest}
-use Rattle.repetition.specs.Outcomes.{place}
 use Rattle.repetition.proofs.Lists.{is_false}
 use Rattle.repetition.proofs.Listing.{empty_list, free_text}
 use Rattle.repetition.proofs.Depth.{depth_greatest}
 use Rattle.repetition.proofs.Longest.{longest_is}
 use Rattle.finder.specs.declared.tally.Tally.{Tally}
-use Rattle.finder.specs.declared.search.Searched.{Searched}
-use Rattle.finder.specs.declared.search.Searched.TheVariants as sought
 use Rattle.finder.specs.declared.reply.Totals.{Totals}
+use Rattle.finder.specs.declared.reply.Repetition.{Repetition}
+use Rattle.finder.specs.declared.reply.Refusal.TheVariants as refusal
+use Rattle.finder.specs.declared.reply.PlaceRefusal.TheVariants as place_refusal
 use Rattle.finder.specs.declared.reply.Listing.{Listing}
 use Rattle.finder.specs.declared.reply.Listing.TheVariants as reply_listing
-use Rattle.finder.specs.declared.reply.Place.TheVariants as reply_place
-use Rattle.finder.specs.declared.reply.Room.TheVariants as reply_room
-use Rattle.finder.specs.declared.reply.Freedom.{Freedom}
-use Rattle.finder.specs.declared.reply.Freedom.TheVariants as reply_freedom
-use Rattle.finder.specs.declared.reply.Longest.{Longest}
-use Rattle.finder.specs.declared.reply.Longest.TheVariants as reply_longest
 use Rattle.finder.specs.Promises.{ListPromise, PlacePromise, FreePromise, LongestPromise, RoomPromise}
-use Rattle.finder.specs.Replies.{reply, listing_number, listing_values}
+use Rattle.finder.specs.Replies.{Freedom, Longest, reply, refused_list, listing_number, listing_values}
 use Rattle.finder.specs.Replies.{freedom_number, freedom_values, longest_number, longest_values}
 use Rattle.finder.specs.Places.{same_letters}
-use Rattle.finder.specs.Searching.{tally_of, searched, searching}
+use Rattle.finder.specs.Kept.{the_totals, the_longest}
+use Rattle.finder.specs.Searching.{Searched, tally_of, searched, searching}
 use Rattle.finder.proofs.Refusals.{refused_1, refused_2, not_refused, listing_refused, listing_taken}
 use Rattle.finder.proofs.Refusals.{asked_refused, asked_taken, NoPlace, place_refused, place_none, place_taken}
 use Rattle.finder.proofs.Refusals.{room_refused, room_taken}
@@ -47,74 +44,63 @@ use Rattle.finder.proofs.Searches.{by_outcome}
 
 -- ---- the list
 
-abbrev totals : Tally → Totals
-totals y = record { blocks = y.blocks; comparisons = y.comparisons }
-
 -- the list's reply, where the report has so much room
 abbrev pub listing_of : ℕ → Searched → Listing
-listing_of n sought.TextTooLong = reply_listing.TextTooLong
-listing_of n sought.WorkTooShort = reply_listing.WorkTooShort
-listing_of n (sought.Found y) = cond (leb y.blocks n) (reply_listing.Finished (totals y)) (reply_listing.Full (totals y))
-
-module _ (report : List ℕ) {r : Searched} (y : Tally) (is : r ≡ sought.Found y) where
-  pub finished_is : y.blocks ≤ length report / numbers_per_block → reply_listing.Finished (totals y) ≡ listing_of (room report) r
-  unfolding room
-  finished_is l = rw (is, le-leb y.blocks (length report / numbers_per_block) l)
-
-  pub full_is : length report / numbers_per_block < y.blocks → reply_listing.Full (totals y) ≡ listing_of (room report) r
-  unfolding room
-  full_is l = rw (is, lt-leb y.blocks (length report / numbers_per_block) l)
+listing_of n (Err e) = refused_list e
+listing_of n (Ok y) = cond (leb y.blocks n) (reply_listing.Finished (the_totals y)) (reply_listing.Full (the_totals y))
 
 list_as : (t work report : List ℕ) (r : Listing) (o : Listed) → listing t work report ≡ o
     → reply (listing_number r) (listing_values r) ≡ o.reply → ListPromise t work report r o.work o.report
 list_as t work report r o e f = record { replies = rw e f; leaves_work = rw e; leaves_report = rw e }
 
-listed_reply : (t work report : List ℕ) → let r = listing_of (room report) (sought.Found (tally_of t)) in
+listed_reply : (t work report : List ℕ) → let r = listing_of (room report) (Ok (tally_of t)) in
     reply (listing_number r) (listing_values r) ≡ (listed t work report).reply
 unfolding listed tally_of
 listed_reply t work report = go (leb (length (list_of t)) (room report))
   where
     go : (fits : Bool)
-        → let r = cond fits (reply_listing.Finished (totals (tally_of t))) (reply_listing.Full (totals (tally_of t))) in
+        → let r = cond fits (reply_listing.Finished (the_totals (tally_of t))) (reply_listing.Full (the_totals (tally_of t))) in
         reply (listing_number r) (listing_values r) ≡ reply (cond fits 0 3) (length (list_of t) ∷ comparisons t ∷ [])
     go true = refl
     go false = refl
 
-pub list_promise : (t work report : List ℕ) {a : Listing} {r : Searched} {work' report' : List ℕ} → a ≡ listing_of (room report) r
-    → searched r work' report' ≡ searching t work report → ListPromise t work report a work' report'
-unfolding listed
-list_promise t work report is e =
-    rw is
-    (by_outcome t work report (λ r work' report'. ListPromise t work report (listing_of (room report) r) work' report')
-    (λ l. list_as t work report _ _ (listing_refused t work report 0 (refused_1 t work l)) refl)
-    (λ l m. list_as t work report _ _ (listing_refused t work report 1 (refused_2 t work l m)) refl)
-    (λ l m. list_as t work report _ _ (listing_taken t work report (not_refused t work l m)) (listed_reply t work report))
-    e)
+module _ (t work report : List ℕ) {work' report' : List ℕ} where
+  pub list_promise : {r : Searched} → searched r work' report' ≡ searching t work report
+      → ListPromise t work report (listing_of (room report) r) work' report'
+  unfolding listed
+  list_promise =
+      by_outcome t work report (λ r work' report'. ListPromise t work report (listing_of (room report) r) work' report')
+      (λ l. list_as t work report _ _ (listing_refused t work report 0 (refused_1 t work l)) refl)
+      (λ l m. list_as t work report _ _ (listing_refused t work report 1 (refused_2 t work l m)) refl)
+      (λ l m. list_as t work report _ _ (listing_taken t work report (not_refused t work l m)) (listed_reply t work report))
+
+  module _ {y : Tally} {a : Totals} (e : searched (Ok y) work' report' ≡ searching t work report) (is : a ≡ the_totals y) where
+    pub list_finished : a.blocks ≤ length report / numbers_per_block
+        → ListPromise t work report (reply_listing.Finished a) work' report'
+    unfolding room
+    list_finished l = rw is (rw (le-leb y.blocks (length report / numbers_per_block) (rw is at l)) at (list_promise e))
+
+    pub list_full : length report / numbers_per_block < a.blocks
+        → ListPromise t work report (reply_listing.Full a) work' report'
+    unfolding room
+    list_full l = rw is (rw (lt-leb y.blocks (length report / numbers_per_block) (rw is at l)) at (list_promise e))
 
 -- ---- the longest repetition
 
 abbrev pub longest_answered : Searched → Longest
-longest_answered sought.TextTooLong = reply_longest.TextTooLong
-longest_answered sought.WorkTooShort = reply_longest.WorkTooShort
-longest_answered (sought.Found y) = cond (eqb y.half 0) reply_longest.Nothing (reply_longest.Found y.start y.half)
-
-module _ {r : Searched} (y : Tally) (is : r ≡ sought.Found y) where
-  pub nothing_when : y.half ≡ 0 → reply_longest.Nothing ≡ longest_answered r
-  nothing_when e = rw (is, e)
-
-  pub found_when : (y.half ≡ 0 → ⊥) → reply_longest.Found y.start y.half ≡ longest_answered r
-  found_when f = rw (is, ne_eqb y.half 0 f)
+longest_answered (Err e) = Err e
+longest_answered (Ok y) = Ok (the_longest y)
 
 abbrev longest_reply : Longest → Reply
 longest_reply r = reply (longest_number r) (longest_values r)
 
-longest_whole : (t : List ℕ) → longest_reply (longest_answered (sought.Found (tally_of t))) ≡ reply 0 (longest_in (list_of t))
+longest_whole : (t : List ℕ) → longest_reply (longest_answered (Ok (tally_of t))) ≡ reply 0 (longest_in (list_of t))
 unfolding tally_of longest_in
 longest_whole t = go (list_of t) refl
   where
     go : (bs : List Block) → list_of t ≡ bs
         → let half = get_or (longest_in bs) 1 0 in
-        longest_reply (cond (eqb half 0) reply_longest.Nothing (reply_longest.Found (get_or (longest_in bs) 0 0) half))
+        longest_reply (Ok (cond (eqb half 0) None (Some (record { start = get_or (longest_in bs) 0 0; half = half }))))
         ≡ reply 0 (longest_in bs)
     go [] e = refl
     go (b ∷ bs) e =
@@ -129,24 +115,20 @@ longest_as : (t work : List ℕ) (a : Longest) (o : Asked) → longest t work �
     → LongestPromise t work a o.work
 longest_as t work a o e f = record { replies = rw e f; leaves_work = rw e }
 
-pub longest_promise : (t work report : List ℕ) {a : Longest} {r : Searched} {work' report' : List ℕ} → a ≡ longest_answered r
-    → searched r work' report' ≡ searching t work report → LongestPromise t work a work'
+pub longest_promise : (t work report : List ℕ) {r : Searched} {work' report' : List ℕ}
+    → searched r work' report' ≡ searching t work report → LongestPromise t work (longest_answered r) work'
 unfolding longest
-longest_promise t work report is e =
-    rw is
-    (by_outcome t work report (λ r work' _. LongestPromise t work (longest_answered r) work')
+longest_promise t work report =
+    by_outcome t work report (λ r work' _. LongestPromise t work (longest_answered r) work')
     (λ l. longest_as t work _ _ (asked_refused t work longest_answer 0 (refused_1 t work l)) refl)
     (λ l m. longest_as t work _ _ (asked_refused t work longest_answer 1 (refused_2 t work l m)) refl)
     (λ l m. longest_as t work _ _ (asked_taken t work longest_answer (not_refused t work l m)) (longest_whole t))
-    e)
 
 -- ---- the free test: yes where there is no longest repetition
 
 abbrev pub freedom_of : Longest → Freedom
-freedom_of reply_longest.TextTooLong = reply_freedom.TextTooLong
-freedom_of reply_longest.WorkTooShort = reply_freedom.WorkTooShort
-freedom_of reply_longest.Nothing = reply_freedom.Free
-freedom_of (reply_longest.Found s p) = reply_freedom.NotFree
+freedom_of (Err e) = Err e
+freedom_of (Ok a) = Ok (is_none a)
 
 abbrev is_empty : List ℕ → Bool
 is_empty [] = true
@@ -157,10 +139,10 @@ abbrev freed : Reply → Reply
 freed r = elim r.number [ zero ↦ reply 0 (one_if (is_empty r.values) ∷ []) | suc k ↦ r ]
 
 freed_is : (a : Longest) → reply (freedom_number (freedom_of a)) (freedom_values (freedom_of a)) ≡ freed (longest_reply a)
-freed_is reply_longest.TextTooLong = refl
-freed_is reply_longest.WorkTooShort = refl
-freed_is reply_longest.Nothing = refl
-freed_is (reply_longest.Found s p) = refl
+freed_is (Err refusal.TextTooLong) = refl
+freed_is (Err refusal.WorkTooShort) = refl
+freed_is (Ok None) = refl
+freed_is (Ok (Some a)) = refl
 
 free_is : (t : List ℕ) → is_empty (longest_in (list_of t)) ≡ repetition_free t
 unfolding longest_in
@@ -193,22 +175,27 @@ free_as t work = go (refusal t work) refl
         freed_as _ _ _ _ (asked_refused t work longest_answer k e) (asked_refused t work free_answer k e)
         (record { same_reply = refl; same_work = refl })
 
-pub free_promise : (t work : List ℕ) {a : Longest} {b : Freedom} {work' : List ℕ} → b ≡ freedom_of a
-    → LongestPromise t work a work' → FreePromise t work b work'
-free_promise t work {a} is promise =
+pub free_promise : (t work : List ℕ) {a : Longest} {work' : List ℕ} → LongestPromise t work a work'
+    → FreePromise t work (freedom_of a) work'
+free_promise t work {a} promise =
     record {
-      replies = rw (is, freed_is a, promise.replies) (free_as t work).same_reply;
+      replies = rw (freed_is a, promise.replies) (free_as t work).same_reply;
       leaves_work = promise.leaves_work ∙ (free_as t work).same_work;
     }
+
+pub free_answered : (t work : List ℕ) {o : Option Repetition} {free : Bool} {work' : List ℕ} → is_some o ≡ not free
+    → LongestPromise t work (Ok o) work' → FreePromise t work (Ok free) work'
+free_answered t work {free = true} e promise = rw e at (free_promise t work promise)
+free_answered t work {free = false} e promise = rw e at (free_promise t work promise)
 
 -- ---- the place test
 
 module _ (t : List ℕ) (s p : ℕ) where
-  pub place_long : length_limit < length t → PlacePromise t s p reply_place.TextTooLong
+  pub place_long : length_limit < length t → PlacePromise t s p (Err place_refusal.TextTooLong)
   place_long l = record { replies = sym (place_refused t s p l) }
 
   module _ (l : length t ≤ length_limit) {fits : Bool} (is : fits ≡ leb 1 p && leb (s + 2 * p) (length t)) where
-    pub no_place : fits ≡ false → PlacePromise t s p reply_place.NoSuchPlace
+    pub no_place : fits ≡ false → PlacePromise t s p (Err place_refusal.NoSuchPlace)
     no_place e = record { replies = sym (place_none t s p l outside) }
       where
         outside : NoPlace t s p
@@ -221,7 +208,7 @@ module _ (t : List ℕ) (s p : ℕ) where
               ]
             ]
 
-    pub place_within : fits ≡ true → (1 ≤ p) × (s + 2 * p ≤ length t)
+    place_within : fits ≡ true → (1 ≤ p) × (s + 2 * p ≤ length t)
     place_within e =
         let h = (and-eq-true_iff (leb 1 p) (leb (s + 2 * p) (length t))).0 (sym is ∙ e) in
         (leb-true 1 p h.0, leb-true (s + 2 * p) (length t) h.1)
@@ -232,27 +219,24 @@ module _ (t : List ℕ) (s p : ℕ) where
         let w = place_within e in rw (le-leb 1 p w.0, le-leb (s + 2 * p) (length t) w.1)
 
     module _ (e : fits ≡ true) {same : Bool} (f : same ≡ same_letters t s (s + p) p) where
-      answer_is : reply 0 (one_if same ∷ []) ≡ place t s p
-      answer_is =
+      pub place_answered : PlacePromise t s p (Ok same)
+      place_answered =
           let w = place_within e in
-          ap (λ (b : Bool). reply 0 (one_if b ∷ [])) (f ∙ stands_same e) ∙ sym (place_taken t s p l w.0 w.1)
-
-      pub place_yes : same ≡ true → PlacePromise t s p reply_place.Stands
-      place_yes g = record { replies = rw g at answer_is }
-
-      pub place_no : same ≡ false → PlacePromise t s p reply_place.DoesNotStand
-      place_no g = record { replies = rw g at answer_is }
+          record {
+            replies =
+                ap (λ (b : Bool). reply 0 (one_if b ∷ [])) (f ∙ stands_same e) ∙ sym (place_taken t s p l w.0 w.1);
+          }
 
 -- ---- the room question
 
 module _ (n : ℕ) where
-  pub room_long : length_limit < n → RoomPromise n reply_room.TextTooLong
+  pub room_long : length_limit < n → RoomPromise n (Err (record {}))
   room_long l = record { replies = sym (room_refused n l) }
 
   module _ (l : n ≤ length_limit) {d : ℕ} (e : d ≡ depth n) where
     pub room_fits : n * d ≤ length_limit * greatest_depth
     room_fits = rw e (mul-le-mul l (depth_greatest n l))
 
-    pub room_promise : RoomPromise n (reply_room.Blocks (n * d))
+    pub room_promise : RoomPromise n (Ok (n * d))
     unfolding room_for
     room_promise = record { replies = ap (λ (d : ℕ). reply 0 (n * d ∷ [])) e ∙ sym (room_taken n l) }

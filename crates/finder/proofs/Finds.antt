@@ -1,11 +1,11 @@
 -- The parts of a text are found one after the other. Assumes nothing.
 use Prim.Native.Nat.{ℕ, ◌+◌, ◌-◌, ◌*◌, ◌≤◌, ◌<◌}
-use mathlib.Core.Path.{◌≡◌, refl, sym, ap, ◌∙◌}
+use mathlib.Core.Path.{◌≡◌, refl, sym, ap, subst, ◌∙◌}
 use mathlib.Core.List.{List, [], ◌∷◌, foldl, foldl-append}
 use native.Mathlib.Omega.{arith}
 use lib.ListN.{length}
 use Rattle.repetition.specs.Numbers.{total}
-use Rattle.repetition.specs.Cutting.{Part, cut, parts}
+use Rattle.repetition.specs.Cutting.{Part, cut, cut_of, parts}
 use Rattle.repetition.specs.Blocks.{part_blocks}
 use Rattle.repetition.specs.Comparisons.{part_comparisons}
 use Rattle.repetition.specs.Limits.{length_limit}
@@ -17,7 +17,7 @@ use Rattle.tables.proofs.Parts.{length-with_tables}
 use Rattle.finder.specs.declared.tally.Tally.{Tally}
 use Rattle.finder.specs.Kept.{Kept, kept, compared, found, found_all}
 use Rattle.finder.specs.Finding.{tables_left, letters_in, HasRoom, CanFindPart, CanFind, Finds}
-use Rattle.finder.proofs.Puts.{length-put_all, blocks_put_all, comparisons_put_all}
+use Rattle.finder.proofs.Puts.{blocks_put_all, comparisons_put_all}
 
 -- ---- a fold over the parts: nothing for a small part, else the part, its left piece and its right piece
 
@@ -81,16 +81,6 @@ grown_all t =
 
 -- ---- lengths
 
-length-found_all : (t : List ℕ) (k : Kept) (qs : List Part) → length (found_all t k qs).report ≡ length k.report
-unfolding found
-length-found_all t k [] = refl
-length-found_all t k (q ∷ qs) = length-found_all t (found t k q) qs ∙ length-put_all _ (part_blocks t q)
-
-pub report_kept : {t work report work_left report_left : List ℕ} {qs : List Part} {y r : Tally}
-    → Finds t work report qs y r work_left report_left → length report_left ≡ length report
-report_kept {t = t} {report = report} {qs = qs} {y = y} f =
-    ap (λ (k : Kept). length k.report) f.keeps ∙ length-found_all t (kept report y) qs
-
 length-tables_left : (t : List ℕ) → length t ≤ length_limit → (a b : ℕ) → b ≤ length t → (work : List ℕ)
     → 2 * (b - a) ≤ length work → length (tables_left t work (parts a b)) ≡ length work
 length-tables_left t limit =
@@ -112,25 +102,28 @@ found_none t k a b l = none_over (found t) k a b l
 pub tables_none : (t work : List ℕ) (a b : ℕ) → b - a < 2 → tables_left t work (parts a b) ≡ work
 tables_none t work a b l = none_over (λ w q. with_tables t q w) work a b l
 
-pub none_found : {t work report : List ℕ} {y : Tally} (a b : ℕ) → b - a < 2 → Finds t work report (parts a b) y y work report
-none_found a b l = record { keeps = sym (found_none _ _ a b l); leaves_work = sym (tables_none _ _ a b l) }
-
 -- ---- the way from a part to its pieces
 
 module _ (t work : List ℕ) (from to : ℕ) (y : Tally) (can : CanFind t work from to y) where
-  pub length_left : length (tables_left t work (parts from to)) ≡ length work
-  length_left = length-tables_left t can.limit from to can.inside work can.room
-
   module _ (wide : 2 ≤ to - from) where
-    pub can_part : CanFindPart t work (part from to) y
-    can_part =
+    whole_part : CanFindPart t work (part from to) y
+    whole_part =
         record {
           placed = record { wide = wide; inside = can.inside; limit = can.limit; room = can.room };
           counts = omega (arith, can.counts, letters_pieces from to wide);
         }
 
-    module _ {report : List ℕ} {c : ℕ} {y₁ : Tally} {work₁ report₁ : List ℕ} (cut_is : c ≡ cut from to)
-        (here : Finds t work report (part from to ∷ []) y y₁ work₁ report₁) where
+    pub can_part : {q : Part} → q ≡ part from to → CanFindPart t work q y
+    can_part is = subst (λ (q : Part). CanFindPart t work q y) (sym is) whole_part
+
+    module _ {report : List ℕ} {q : Part} {c : ℕ} {y₁ : Tally} {work₁ report₁ : List ℕ} (is : q ≡ part from to)
+        (cuts : c ≡ cut_of q) (found_here : Finds t work report (q ∷ []) y y₁ work₁ report₁) where
+      cut_is : c ≡ cut from to
+      cut_is = cuts ∙ ap cut_of is
+
+      here : Finds t work report (part from to ∷ []) y y₁ work₁ report₁
+      here = subst (λ (x : Part). Finds t work report (x ∷ []) y y₁ work₁ report₁) is found_here
+
       room_pieces : HasRoom y₁ (letters_in from c + letters_in c to)
       room_pieces =
           let g = grown_found t (kept report y) (part from to) wide can.inside in
@@ -140,11 +133,12 @@ module _ (t work : List ℕ) (from to : ℕ) (y : Tally) (can : CanFind t work f
           (rw (ap (λ (k : Kept). k.tally) here.keeps) g))
 
       length_here : length work₁ ≡ length work
-      length_here = ap length here.leaves_work ∙ length-with_tables t work (part from to) can_part.placed
+      length_here = ap length here.leaves_work ∙ length-with_tables t work (part from to) whole_part.placed
 
       pub can_left : CanFind t work₁ from c y₁
       can_left =
           let w = cut_inside from to wide in
+          let e = cut_is in
           record {
             ordered = omega arith;
             inside = omega (arith, can.inside);
@@ -157,6 +151,7 @@ module _ (t work : List ℕ) (from to : ℕ) (y : Tally) (can : CanFind t work f
         pub can_right : CanFind t work₂ c to y₂
         can_right =
             let w = cut_inside from to wide in
+            let cuts_at = cut_is in
             let g = grown_all t from c can_left.inside (kept report₁ y₁) in
             let e =
             ap length lefts.leaves_work ∙ length-tables_left t can.limit from c can_left.inside work₁ can_left.room in
@@ -182,5 +177,6 @@ module _ (t work : List ℕ) (from to : ℕ) (y : Tally) (can : CanFind t work f
                   (sym (over_pieces (λ w q. with_tables t q w) work from to wide));
             }
 
-pub pieces_fall : (a b : ℕ) {c : ℕ} → c ≡ cut a b → 2 ≤ b - a → (c - a < b - a) × (b - c < b - a)
-pieces_fall a b cut_is wide = omega (arith, cut_inside a b wide)
+pub pieces_fall : (a b : ℕ) {q : Part} {c : ℕ} → q ≡ part a b → c ≡ cut_of q → 2 ≤ b - a
+    → (c - a < b - a) × (b - c < b - a)
+pieces_fall a b is cuts wide = omega (arith, cuts ∙ ap cut_of is, cut_inside a b wide)

@@ -10,8 +10,6 @@ pub mod Classes
 pub mod TableBlocks
 pub mod PartFinds
 pub mod Finds
-pub mod Clearing
-pub mod BothWays
 pub mod Searches
 pub mod Depths
 pub mod Places

@@ -16,10 +16,7 @@ use Rattle.repetition.specs.Examples.{aa, ab, aba, aaaa}
 use Rattle.repetition.proofs.Repetitions.{stands_true}
 use Rattle.repetition.proofs.Listing.{empty_list}
 use Rattle.finder.specs.declared.reply.Listing.{Listing}
-use Rattle.finder.specs.declared.reply.Place.{Place}
-use Rattle.finder.specs.declared.reply.Freedom.{Freedom}
-use Rattle.finder.specs.declared.reply.Longest.{Longest}
-use Rattle.finder.specs.declared.reply.Room.{Room}
+use Rattle.finder.specs.Replies.{Place, Freedom, Longest, Room}
 use Rattle.finder.specs.Replies.{listing_number, listing_values, place_values, freedom_values}
 use Rattle.finder.specs.Replies.{longest_values, room_number, room_values}
 use Rattle.finder.specs.Promises.{ListPromise, PlacePromise, FreePromise, LongestPromise, RoomPromise}

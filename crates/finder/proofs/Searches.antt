@@ -8,6 +8,7 @@ use native.Mathlib.Nat.{zero-add, add-zero, add_assoc}
 use native.Mathlib.Omega.{arith}
 use native.Mathlib.Decide.{dec_lt}
 use borrow.Author.Tests.{lt-ltb, le-ltb}
+use Rattle.std.specs.Prelude.{Ok, Err}
 use lib.ListN.{length, take, drop, replicate, length-replicate}
 use lib.Seq.{length-take-le}
 use Rattle.repetition.specs.Numbers.{consecutive, total}
@@ -22,11 +23,10 @@ use Rattle.tables.specs.Letters.{both_ways, text_of, BothWays}
 use Rattle.tables.specs.Parts.{letters}
 use Rattle.tables.proofs.Letters.{length_both, text_of_both}
 use Rattle.finder.specs.declared.tally.Tally.{Tally}
-use Rattle.finder.specs.declared.search.Searched.{Searched}
-use Rattle.finder.specs.declared.search.Searched.TheVariants.{Found, TextTooLong, WorkTooShort}
+use Rattle.finder.specs.declared.reply.Refusal.TheVariants.{TextTooLong, WorkTooShort}
 use Rattle.finder.specs.Kept.{Kept, kept, no_tally, found, found_all}
 use Rattle.finder.specs.Finding.{CanFind}
-use Rattle.finder.specs.Searching.{CanSearch, kept_of, tally_of, SearchesAll, Sought, searched, searching}
+use Rattle.finder.specs.Searching.{CanSearch, kept_of, tally_of, SearchesAll, Searched, Sought, searched, searching}
 use Rattle.finder.proofs.Written.{kept_after, kept_none, put_after}
 
 -- ---- what is kept of all parts
@@ -66,6 +66,11 @@ found_text t report e none =
     ∙ found_after t report 0 [] (parts 0 (length t))
     ∙ ap (λ (n : ℕ). kept_after report n (list_of t)) (zero-add _)
 
+-- ---- the tally at the start
+
+pub none_yet : (y : Tally) → (y.blocks ≡ 0) × ((y.comparisons ≡ 0) × ((y.half ≡ 0) × (y.start ≡ 0))) → y ≡ no_tally
+none_yet y e = grind arith
+
 -- ---- counts never wrap
 
 can_find : (t work : List ℕ) → CanSearch t work → CanFind t work 0 (length t) no_tally
@@ -85,13 +90,16 @@ module _ (t : List ℕ) {s : List ℕ} (lent : s ≡ both_ways t) where
   text_is : text_of s ≡ t
   text_is = ap text_of lent ∙ text_of_both t
 
-  pub can_find_lent : (work : List ℕ) → CanSearch t work → {y : Tally} → y ≡ no_tally
-      → BothWays s × CanFind (text_of s) work 0 (length t) y
-  can_find_lent work can none = (lent ∙ ap both_ways (sym text_is), rw (text_is, none) (can_find t work can))
+  pub can_lend : BothWays s
+  can_lend = lent ∙ ap both_ways (sym text_is)
 
-  pub found_lent : (report : List ℕ) {y : Tally} {k : Kept} → k ≡ found_all (text_of s) (kept report y) (parts 0 (length t))
-      → y ≡ no_tally → k ≡ kept_of t report
-  found_lent report e none = found_text t report (rw text_is at e) none
+  module _ {r : List ℕ} (is : r ≡ text_of s) where
+    pub can_find_lent : (work : List ℕ) → CanSearch t work → {y : Tally} → y ≡ no_tally → CanFind r work 0 (length t) y
+    can_find_lent work can none = rw (is, text_is, none) (can_find t work can)
+
+    pub found_lent : (report : List ℕ) {y : Tally} {k : Kept} → k ≡ found_all r (kept report y) (parts 0 (length t))
+        → y ≡ no_tally → k ≡ kept_of t report
+    found_lent report e none = found_text t report (rw (is, text_is) at e) none
 
   pub letters_over : (buffer : List ℕ) → s ++ drop (2 * length t) buffer ≡ over (both_ways t) buffer
   unfolding over
@@ -103,42 +111,39 @@ module _ (t work : List ℕ) (l : length t ≤ length_limit) (m : 2 * length t �
   first_part : 2 * length t ≡ length (take (2 * length t) work)
   first_part = sym (length-take-le (2 * length t) work m)
 
-  pub can_search : CanSearch t (take (2 * length t) work)
-  can_search = record { limit = l; room = omega (arith, first_part) }
-
   cleared_is : {work' : List ℕ} → work' ≡ replicate (length (take (2 * length t) work)) 0
       → work' ++ drop (2 * length t) work ≡ cleared (length t) work
   unfolding cleared over
   cleared_is f = rw (f, ← first_part, length-replicate)
 
 module _ (t work report : List ℕ) where
-  pub searched_long : length_limit < length t → searched TextTooLong work report ≡ searching t work report
+  pub searched_long : length_limit < length t → searched (Err TextTooLong) work report ≡ searching t work report
   unfolding searching
   searched_long l = rw (lt-ltb length_limit (length t) l, searching)
 
   pub searched_short : length t ≤ length_limit → length work < 2 * length t
-      → searched WorkTooShort work report ≡ searching t work report
+      → searched (Err WorkTooShort) work report ≡ searching t work report
   unfolding searching
   searched_short l m = rw (le-ltb length_limit (length t) l, lt-ltb (length work) (2 * length t) m, searching)
 
   whole_found : length t ≤ length_limit → 2 * length t ≤ length work
-      → searched (Found (tally_of t)) (cleared (length t) work) (written (list_of t) report) ≡ searching t work report
+      → searched (Ok (tally_of t)) (cleared (length t) work) (written (list_of t) report) ≡ searching t work report
   unfolding searching
   whole_found l m = rw (le-ltb length_limit (length t) l, le-ltb (length work) (2 * length t) m, searching)
 
   pub searched_found : length t ≤ length_limit → 2 * length t ≤ length work
       → {y : Tally} {work' report' : List ℕ} → SearchesAll t (take (2 * length t) work) report y work' report'
-      → searched (Found y) (work' ++ drop (2 * length t) work) report' ≡ searching t work report
+      → searched (Ok y) (work' ++ drop (2 * length t) work) report' ≡ searching t work report
   searched_found l m all =
-      ap₂ (λ (k : Kept) (w : List ℕ). searched (Found k.tally) w k.report) all.keeps
+      ap₂ (λ (k : Kept) (w : List ℕ). searched (Ok k.tally) w k.report) all.keeps
       (cleared_is t work l m all.leaves_work) ∙ whole_found l m
 
   -- What holds of each of the three outcomes holds of the outcome.
   pub by_outcome : (P : Searched → List ℕ → List ℕ → Type 0)
-      → (length_limit < length t → P TextTooLong work report)
-      → (length t ≤ length_limit → length work < 2 * length t → P WorkTooShort work report)
+      → (length_limit < length t → P (Err TextTooLong) work report)
+      → (length t ≤ length_limit → length work < 2 * length t → P (Err WorkTooShort) work report)
       → (length t ≤ length_limit → 2 * length t ≤ length work
-      → P (Found (tally_of t)) (cleared (length t) work) (written (list_of t) report))
+      → P (Ok (tally_of t)) (cleared (length t) work) (written (list_of t) report))
       → {r : Searched} {work' report' : List ℕ} → searched r work' report' ≡ searching t work report → P r work' report'
   by_outcome P long short whole e =
       elim (dec_lt length_limit (length t)) [

@@ -1,6 +1,6 @@
 -- What is kept while the blocks of a text are found: the report, and the tally of blocks, comparisons and the longest one.
 -- One definition, `put`, says what putting a block does to both.
-use Rattle.std.specs.Prelude.{ℕ, ◌+◌, ◌*◌, ◌^◌, ◌≤◌, ◌<◌, cond, ltb}
+use Rattle.std.specs.Prelude.{ℕ, ◌+◌, ◌*◌, ◌^◌, ◌≤◌, ◌<◌, Option, None, Some, cond, eqb, ltb}
 use mathlib.Core.List.{List, foldl}
 use Rattle.std.proofs.lemmas.List.Edits.{sets}
 use Rattle.repetition.specs.Cutting.{Part}
@@ -8,6 +8,8 @@ use Rattle.repetition.specs.Blocks.{Block, part_blocks}
 use Rattle.repetition.specs.Comparisons.{part_comparisons}
 use Rattle.repetition.specs.Limits.{length_limit, numbers_per_block}
 use Rattle.repetition.specs.Memory.{numbers, room}
+use Rattle.finder.specs.declared.reply.Totals.{Totals}
+use Rattle.finder.specs.declared.reply.Repetition.{Repetition}
 use Rattle.finder.specs.declared.tally.Tally.{Tally}
 use Rattle.finder.specs.declared.tally.Block as code
 
@@ -33,6 +35,14 @@ counted y b =
       half = cond longer b.half y.half;
       start = cond longer b.first y.start;
     }
+
+-- what a list hands back of a tally
+abbrev pub the_totals : Tally → Totals
+the_totals y = record { blocks = y.blocks; comparisons = y.comparisons }
+
+-- the longest repetition of a tally
+abbrev pub the_longest : Tally → Option Repetition
+the_longest y = cond (eqb y.half 0) None (Some (record { start = y.start; half = y.half }))
 
 -- a report with a block that comes after n others, if it fits
 unfoldable pub with_block : ℕ → Block → List ℕ → List ℕ

@@ -3,10 +3,7 @@
 use Rattle.std.specs.Prelude.{ℕ, ◌≡◌, List}
 use Rattle.repetition.specs.Outcomes.{listing, place, free_test, longest, room_question}
 use Rattle.finder.specs.declared.reply.Listing.{Listing}
-use Rattle.finder.specs.declared.reply.Place.{Place}
-use Rattle.finder.specs.declared.reply.Freedom.{Freedom}
-use Rattle.finder.specs.declared.reply.Longest.{Longest}
-use Rattle.finder.specs.declared.reply.Room.{Room}
+use Rattle.finder.specs.Replies.{Place, Freedom, Longest, Room}
 use Rattle.finder.specs.Replies.{reply, listing_number, listing_values, place_number, place_values}
 use Rattle.finder.specs.Replies.{freedom_number, freedom_values, longest_number, longest_values, room_number, room_values}
 

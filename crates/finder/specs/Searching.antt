@@ -1,5 +1,5 @@
 -- The search of a text: what it leaves, and on which grounds it is refused.
-use Rattle.std.specs.Prelude.{ℕ, ◌*◌, ◌≤◌, ◌≡◌, true, false, List, ltb, length, get_or, replicate}
+use Rattle.std.specs.Prelude.{ℕ, ◌*◌, ◌≤◌, ◌≡◌, true, false, List, Result, Ok, Err, ltb, length, get_or, replicate}
 use Rattle.repetition.specs.Blocks.{list_of}
 use Rattle.repetition.specs.Comparisons.{comparisons}
 use Rattle.repetition.specs.Limits.{length_limit}
@@ -7,8 +7,8 @@ use Rattle.repetition.specs.Memory.{written, cleared}
 use Rattle.repetition.specs.Outcomes.{longest_in}
 use Rattle.finder.specs.Kept.{Kept, kept}
 use Rattle.finder.specs.declared.tally.Tally.{Tally}
-use Rattle.finder.specs.declared.search.Searched.{Searched}
-use Rattle.finder.specs.declared.search.Searched.TheVariants.{Found, TextTooLong, WorkTooShort}
+use Rattle.finder.specs.declared.reply.Refusal.{Refusal}
+use Rattle.finder.specs.declared.reply.Refusal.TheVariants.{TextTooLong, WorkTooShort}
 
 -- a text within the limit, and work space for it
 pub record CanSearch (t work : List ℕ) : Type 0 where
@@ -36,6 +36,10 @@ pub record SearchesAll (t work report : List ℕ) (r : Tally) (work_left report_
   pub keeps : kept report_left r ≡ kept_of t report
   pub leaves_work : work_left ≡ replicate (length work) 0
 
+-- the tally, or why there is none
+abbrev pub Searched : Type 0
+Searched = Result Tally Refusal
+
 pub record Sought : Type 0 where
   pub result : Searched
   pub work : List ℕ
@@ -48,9 +52,9 @@ unfoldable pub searching : List ℕ → List ℕ → List ℕ → Sought
 unfolding tally_of written cleared list_of
 searching t work report =
     elim (ltb length_limit (length t)) [
-      | true ↦ searched TextTooLong work report
+      | true ↦ searched (Err TextTooLong) work report
       | false ↦ elim (ltb (length work) (2 * length t)) [
-        | true ↦ searched WorkTooShort work report
-        | false ↦ searched (Found (tally_of t)) (cleared (length t) work) (written (list_of t) report)
+        | true ↦ searched (Err WorkTooShort) work report
+        | false ↦ searched (Ok (tally_of t)) (cleared (length t) work) (written (list_of t) report)
       ]
     ]

@@ -4,6 +4,7 @@
 
 mod depth;
 mod letters;
+mod part_tables;
 mod parts;
 mod place;
 mod reading;
@@ -11,13 +12,14 @@ pub mod reply;
 mod search;
 mod tally;
 
+ghost use Rattle.std.specs.Prelude.{◌<◌, ◌≤◌, MatchResult};
+ghost use Rattle.repetition.specs.Limits.{length_limit};
 ghost use Rattle.finder.specs.Promises.{ListPromise, PlacePromise, FreePromise, LongestPromise, RoomPromise};
 
-use crate::reply::{Freedom, Listing, Longest, Place, Room, Totals};
-use crate::search::Searched;
+use crate::reply::{Listing, PlaceRefusal, Refusal, Repetition, TextTooLong};
 
 #[derive(Clone, Copy)]
-pub struct Finder {}
+pub struct Finder;
 
 impl Finder {
     // Letters that a text may have.
@@ -33,16 +35,11 @@ impl Finder {
             result work.new report.new }
     {
         let room = report.len() / Self::NUMBERS_PER_BLOCK;
-        let searched = search::search(text, work, report);
-        match searched {
-            Searched::TextTooLong => Listing::TextTooLong,
-            Searched::WorkTooShort => Listing::WorkTooShort,
-            Searched::Found(tally) => {
-                let totals = Totals {
-                    blocks: tally.blocks,
-                    comparisons: tally.comparisons,
-                };
-                if tally.blocks as usize <= room {
+        match search::search(text, work, report) {
+            Err(refusal) => Listing::from(refusal),
+            Ok(tally) => {
+                let totals = tally.totals();
+                if totals.blocks as usize <= room {
                     Listing::Finished(totals)
                 } else {
                     Listing::Full(totals)
@@ -52,67 +49,49 @@ impl Finder {
     }
 
     // Does the repetition with this start and half length stand in the text?
-    pub fn stands(text: &[u8], start: u64, half: u64) -> Place
+    #[tactic(auto, using(crate::proofs::Entries::place_long, crate::proofs::Entries::no_place, crate::proofs::Entries::place_answered))]
+    pub fn stands(text: &[u8], start: u64, half: u64) -> Result<bool, PlaceRefusal>
         ensures { PlacePromise text.now start half result }
     {
-        let n = text.len();
-        if Self::LENGTH_LIMIT < n {
-            return Place::TextTooLong;
-        }
-        if !place::is_place(n, start, half) {
-            return Place::NoSuchPlace;
+        Self::within_limit(text.len())?;
+        if !place::is_place(text.len(), start, half) {
+            return Err(PlaceRefusal::NoSuchPlace);
         }
         let first = start as usize;
         let letters = half as usize;
-        if place::same(text, first, first + letters, letters) {
-            Place::Stands
-        } else {
-            Place::DoesNotStand
-        }
+        Ok(place::same(text, first, first + letters, letters))
     }
 
-    // The longest repetition.
-    pub fn longest(text: &[u8], work: &mut [u16]) -> Longest
+    // The longest repetition, if there is one.
+    pub fn longest(text: &[u8], work: &mut [u16]) -> Result<Option<Repetition>, Refusal>
         ensures { LongestPromise text.now work.old result work.new }
     {
-        let mut no_report = [0u16; 1];
-        let searched = search::search(text, work, &mut no_report);
-        match searched {
-            Searched::TextTooLong => Longest::TextTooLong,
-            Searched::WorkTooShort => Longest::WorkTooShort,
-            Searched::Found(tally) => {
-                if tally.half == 0 {
-                    Longest::Nothing
-                } else {
-                    Longest::Found {
-                        start: tally.start,
-                        half: tally.half,
-                    }
-                }
-            }
-        }
+        Ok(search::search(text, work, &mut [])?.longest())
     }
 
     // Is the text free of repetitions?
-    pub fn is_free(text: &[u8], work: &mut [u16]) -> Freedom
+    pub fn is_free(text: &[u8], work: &mut [u16]) -> Result<bool, Refusal>
         ensures { FreePromise text.now work.old result work.new }
     {
-        let longest = Self::longest(text, work);
-        match longest {
-            Longest::TextTooLong => Freedom::TextTooLong,
-            Longest::WorkTooShort => Freedom::WorkTooShort,
-            Longest::Nothing => Freedom::Free,
-            Longest::Found { start: _, half: _ } => Freedom::NotFree,
-        }
+        Ok(Self::longest(text, work)?.is_none())
     }
 
     // The blocks that the list of a text of n letters may need room for.
-    pub fn room(n: usize) -> Room
+    #[tactic(auto, using(crate::proofs::Entries::room_long, crate::proofs::Entries::room_fits, crate::proofs::Entries::room_promise))]
+    pub fn room(n: usize) -> Result<u32, TextTooLong>
         ensures { RoomPromise n result }
     {
+        Self::within_limit(n)?;
+        Ok((n * depth::depth_of(n)) as u32)
+    }
+
+    // The test of a length that the entries share.
+    fn within_limit(n: usize) -> Result<(), TextTooLong>
+        ensures { MatchResult result (λ _. n ≤ length_limit) (λ _. length_limit < n) }
+    {
         if Self::LENGTH_LIMIT < n {
-            return Room::TextTooLong;
+            return Err(TextTooLong);
         }
-        Room::Blocks((n * depth::depth_of(n)) as u32)
+        Ok(())
     }
 }

@@ -2,18 +2,11 @@
 ghost use Rattle.std.specs.Prelude.{◌≡◌, ◌&&◌, ◌+◌, ◌*◌, ◌≤◌, leb, length};
 ghost use Rattle.finder.specs.Places.{same_letters};
 
-// Is the half at least 1, and do its two copies end in a text of n letters? No sum is made that could wrap.
+// Is the half at least 1, and do its two copies end in a text of n letters? In 128 bits no sum wraps.
 pub fn is_place(n: usize, start: u64, half: u64) -> bool
     ensures { result ≡ leb 1 half && leb (start + 2 * half) n }
 {
-    let end = n as u64;
-    if half == 0 {
-        return false;
-    }
-    if end < start {
-        return false;
-    }
-    half <= (end - start) / 2
+    1 <= half && u128::from(start) + 2 * u128::from(half) <= n as u128
 }
 
 // Are so many letters the same at two places?
@@ -21,12 +14,5 @@ pub fn same(text: &[u8], a: usize, b: usize, letters: usize) -> bool
     requires { (a + letters ≤ length text.now) × (b + letters ≤ length text.now) }
     ensures { result ≡ same_letters text.now a b letters }
 {
-    let mut k = 0;
-    while k < letters {
-        if text[a + k] != text[b + k] {
-            return false;
-        }
-        k += 1;
-    }
-    true
+    &text[a..a + letters] == &text[b..b + letters]
 }

@@ -6,25 +6,10 @@ ghost use Rattle.tables.specs.Letters.{both_ways};
 ghost use Rattle.finder.specs.Searching.{searched, searching, CanSearch, SearchesAll};
 
 use crate::parts::Part;
+use crate::reply::Refusal;
 use crate::tally::Tally;
 use crate::{Finder, letters, parts};
-
-#[derive(Clone, Copy)]
-pub enum Searched {
-    Found(Tally),
-    TextTooLong,
-    WorkTooShort,
-}
-
-fn clear(work: &mut [u16])
-    ensures { work.new ≡ replicate (length work.old) 0 }
-{
-    let mut i = 0;
-    'numbers: while i < work.len() {
-        work[i] = 0;
-        i += 1;
-    }
-}
+use tables::text::Letters;
 
 // Finds the blocks of a text that is not refused, and clears the work space. The text's letters go to the front of the buffer.
 fn search_letters(text: &[u8], buffer: &mut [u16], work: &mut [u16], report: &mut [u16]) -> Tally
@@ -38,8 +23,14 @@ fn search_letters(text: &[u8], buffer: &mut [u16], work: &mut [u16], report: &mu
     let letters = &mut buffer[..end];
     letters::write_letters(text, letters);
     let whole = Part { from: 0, to: n };
-    let tally = parts::find(&letters[..], work, report, whole, Tally::none());
-    clear(work);
+    let tally = parts::find(
+        &Letters::of(&letters[..]),
+        work,
+        report,
+        whole,
+        Tally::default(),
+    );
+    work.fill(0);
     tally
 }
 
@@ -54,17 +45,15 @@ fn search_whole(text: &[u8], work: &mut [u16], report: &mut [u16]) -> Tally
 }
 
 #[tactic(auto, using(crate::proofs::Searches::searched_long, crate::proofs::Searches::searched_short))]
-pub fn search(text: &[u8], work: &mut [u16], report: &mut [u16]) -> Searched
+pub fn search(text: &[u8], work: &mut [u16], report: &mut [u16]) -> Result<Tally, Refusal>
     ensures { searched result work.new report.new
         ≡ searching text.now work.old report.old }
 {
     let n = text.len();
-    if Finder::LENGTH_LIMIT < n {
-        return Searched::TextTooLong;
-    }
+    Finder::within_limit(n)?;
     let numbers = 2 * n;
     if work.len() < numbers {
-        return Searched::WorkTooShort;
+        return Err(Refusal::WorkTooShort);
     }
-    Searched::Found(search_whole(text, &mut work[..numbers], report))
+    Ok(search_whole(text, &mut work[..numbers], report))
 }

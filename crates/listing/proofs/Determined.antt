@@ -4,6 +4,6 @@ use mathlib.Core.Path.{◌≡◌}
 use mathlib.Core.List.{List}
 use Rattle.listing.specs.Promises.{OutputPromise}
 
-pub one_output : {t out : List ℕ} {r r' : ℕ} {out_left out_left' : List ℕ} → OutputPromise t out r out_left
-    → OutputPromise t out r' out_left' → (r ≡ r') × (out_left ≡ out_left')
-one_output x y = (cc, cc)
+pub one_output : {t out out_left out_left' : List ℕ} → OutputPromise t out out_left → OutputPromise t out out_left'
+    → out_left ≡ out_left'
+one_output x y = cc

@@ -2,8 +2,6 @@
 -- others are the laws by which src/ is proved, from the leaves up.
 pub mod Determined
 pub mod Examples
-pub mod Puts
 pub mod Decimals
-pub mod Numbers
 pub mod Lines
 pub mod Outputs

@@ -2,16 +2,13 @@
 use Prim.Native.Nat.{ℕ, ◌*◌, ◌/◌, ◌≤◌, ◌<◌}
 use mathlib.Core.Path.{◌≡◌, refl, sym, ap, ◌∙◌}
 use mathlib.Core.List.{List, ◌++◌, flat_map}
-use native.Mathlib.Nat.{zero-add}
 use native.Mathlib.Omega.{arith}
-use lib.ListN.{length, length-append, length-drop}
-use lib.Seq.{length-take-le, sets, sets-eq}
+use lib.ListN.{length}
 use borrow.Author.Tests.{le-leb, lt-leb, lt-ltb, le-ltb}
-use Rattle.io.specs.Counts.{IsPrefixLen}
 use Rattle.repetition.specs.Blocks.{list_of}
 use Rattle.repetition.specs.Comparisons.{comparisons}
 use Rattle.repetition.specs.Limits.{numbers_per_block}
-use Rattle.repetition.specs.Memory.{over, room, blocks_in}
+use Rattle.repetition.specs.Memory.{room, blocks_in}
 use Rattle.finder.specs.declared.reply.Totals.{Totals}
 use Rattle.finder.specs.declared.reply.Listing.{Listing}
 use Rattle.finder.specs.declared.reply.Listing.TheVariants as listing
@@ -20,26 +17,6 @@ use Rattle.finder.specs.Promises.{ListPromise}
 use Rattle.finder.proofs.Demands.{totals, Grounds, demand_1, Demand2, demand_2}
 use Rattle.listing.specs.Output.{text_limit, block_limit, refused_1, refused_3_word, line_feed}
 use Rattle.listing.specs.Output.{number, header, line, shown, output}
-use Rattle.listing.specs.Promises.{OutputPromise}
-use Rattle.listing.specs.Buffers.{Room, Put, output_room}
-
--- what is put at the front of a buffer is the output
-pub output_put : {t out : List ℕ} {n : ℕ} {xs : List ℕ} {r : ℕ} {out_left : List ℕ} → xs ≡ output t → Put out 0 n xs r out_left
-    → n ≤ output_room → Room out 0 output_room → OutputPromise t out r out_left
-unfolding over
-output_put {out = out} {xs = xs} e put l large =
-    record {
-      ends = rw (← e) (omega arith);
-      leaves_out = rw (← e) (put.leaves ∙ sets-eq xs out 0 (omega arith) ∙ rw zero-add);
-    }
-
--- the output lies in the buffer
-pub output_inside : {t out : List ℕ} {r : ℕ} {out_left : List ℕ} → OutputPromise t out r out_left → length out_left ≡ length out
-    → IsPrefixLen r out_left
-unfolding over
-output_inside {t} {out} {r} {out_left} promise kept =
-    let l : r ≤ length out_left = omega (arith, simp (length-append, length-drop) at (ap length promise.leaves_out)) in
-    (l, sym (length-take-le r out_left l))
 
 -- the totals of a reply are those of the list
 totals_are : (t : List ℕ) (a : Totals) → totals_values a ≡ totals t
@@ -101,11 +78,3 @@ module _ (t : List ℕ) where
           let f = grounds.full.0 (ap listing_number e) in
           let v = ((demand_1 t work report r work_left report_left promise).leading (ap listing_number e)).values in
           rw (output_full (omega (arith, room_is, f.2)), (totals_are t a (ap listing_values (sym e) ∙ v)).0)
-
--- what is put for a longer text: src/output.rt names both laws, and no answer names the test, which a must-fail edit turns
-pub over_refused : (t out : List ℕ) → text_limit < length t → 10 ≤ length out → over (output t) out ≡ sets out 0 refused_1
-unfolding over
-over_refused t out l m = rw (output_too_long t l) (sym (sets-eq refused_1 out 0 m))
-
-pub size_refused : (t : List ℕ) → text_limit < length t → length (output t) ≡ 10
-size_refused t l = ap length (output_too_long t l)

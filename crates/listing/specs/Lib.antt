@@ -1,5 +1,5 @@
--- Output is what a reader must believe, and Promises the whole outcome of `put_output`. Buffers is what the contracts of src/ say
+-- Output is what a reader must believe, and Promises the whole outcome of `put_output`. Parts is what the contracts of src/ say
 -- besides.
 pub mod Output
 pub mod Promises
-pub mod Buffers
+pub mod Parts

@@ -1,38 +1,35 @@
-// Letters and numbers put into a buffer, one after the other. Each function answers where what it put ends.
-ghost use Rattle.std.specs.Prelude.{◌+◌, ◌++◌, length};
-ghost use Rattle.listing.specs.Output.{number};
-ghost use Rattle.listing.specs.Buffers.{Room, Put, count_room};
+// An output, and the numbers that are put into it.
+ghost use Rattle.std.specs.Prelude.{◌≡◌, ◌+◌, ◌≤◌, ◌++◌, length};
+ghost use Rattle.arrayvec.specs.ArrayString.{array_string_len};
+ghost use Rattle.listing.specs.Output.{decimal};
+ghost use Rattle.listing.specs.Parts.{HasRoom, count_digits};
 
-pub fn put(out: &mut [u8], at: usize, letters: &[u8]) -> usize
-    requires { Room out.old at (length letters.now) }
-    ensures { Put out.old at (length letters.now) letters.now result out.new }
+use arrayvec::ArrayString;
+use itoa::{Buffer, Integer};
+
+// Blocks that a list may have.
+pub const BLOCK_LIMIT: usize = 2_000;
+// Letters of the longest output: a header of 46, and a line of 18 for each block.
+const ROOM: usize = 46 + 18 * BLOCK_LIMIT;
+
+pub type Output = ArrayString<ROOM>;
+
+// Puts a number in decimal, and a word after it. Not by `write!`, whose contract doesn't say that it succeeds where it fits.
+pub fn put_number<N: Integer>(out: &mut Output, value: N, after: &str)
+    requires { HasRoom out.old (N.MAX_STR_LEN + length after.now) }
+    ensures puts { out.new.bytes ≡ out.old.bytes ++ (N.text value ++ after.now) }
+    ensures short { array_string_len out.new ≤ array_string_len out.old + (N.MAX_STR_LEN + length after.now) }
 {
-    let mut i = 0;
-    while i < letters.len() {
-        out[at + i] = letters[i];
-        i += 1;
-    }
-    at + i
+    out.push_str(Buffer::new().format(value));
+    out.push_str(after);
 }
 
-// Puts a number in decimal, and the letter after it.
-pub fn put_number(out: &mut [u8], at: usize, value: u32, letter: u8) -> usize
-    requires { Room out.old at (length (number value letter)) }
-    ensures { Put out.old at (length (number value letter)) (number value letter) result out.new }
+// Puts a word, a number after it, and a word after that.
+pub fn put_count(out: &mut Output, before: &str, value: u32, after: &str)
+    requires { HasRoom out.old (length before.now + (count_digits + length after.now)) }
+    ensures puts { out.new.bytes ≡ out.old.bytes ++ (before.now ++ (decimal value ++ after.now)) }
+    ensures short { array_string_len out.new ≤ array_string_len out.old + (length before.now + (count_digits + length after.now)) }
 {
-    let mut digits = [0u8; 20];
-    let k = io::decimal(value as u64, &mut digits);
-    let end = put(out, at, &digits[..k]);
-    out[end] = letter;
-    end + 1
-}
-
-// Puts a word, a number after it, and the letter after that.
-pub fn put_count(out: &mut [u8], at: usize, word: &[u8], value: u32, letter: u8) -> usize
-    requires { Room out.old at (length word.now + count_room) }
-    ensures { Put out.old at (length word.now + count_room) (word.now ++ number value letter) result
-        out.new }
-{
-    let end = put(out, at, word);
-    put_number(out, end, value, letter)
+    out.push_str(before);
+    put_number(out, value, after);
 }

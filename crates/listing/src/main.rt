@@ -7,23 +7,17 @@ mod input;
 mod letters;
 mod output;
 
-use crate::input::Input;
-use anyhow::bail;
+use crate::letters::Output;
+use anyhow::anyhow;
 use std::io::Write;
 
 fn main(rt: HostRuntime) -> anyhow::Result<()> {
     // One byte more than a text may have, by which a longer input is known.
     let mut text = [0u8; output::TEXT_LIMIT + 1];
     let read = input::read_text(&mut rt.stdin(), &mut text);
-    match read {
-        Input::Failed(error) => bail!("standard input: {error}"),
-        Input::Text(n) => {
-            let mut out = [0u8; output::ROOM];
-            let end = output::put_output(&text[..n], &mut out);
-            if let Err(error) = rt.stdout().write_all(&out[..end]) {
-                bail!("standard output: {error}");
-            }
-            Ok(())
-        }
-    }
+    let n = read.map_err(|error| anyhow!("standard input: {error}"))?;
+    let mut out = Output::new();
+    output::put_output(&text[..n], &mut out);
+    let written = rt.stdout().write_all(out.as_str().as_bytes());
+    written.map_err(|error| anyhow!("standard output: {error}"))
 }

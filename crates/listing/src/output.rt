@@ -1,84 +1,71 @@
 // The output: a header and a line for each block, or one line that says why there is no list.
-ghost use Rattle.std.specs.Prelude.{◌+◌, ◌*◌, ◌≤◌, ◌<◌, length, get_or};
+ghost use Rattle.std.specs.Prelude.{◌≡◌, ◌+◌, ◌*◌, ◌≤◌, ◌++◌, length};
 ghost use mathlib.Core.List.{flat_map};
-ghost use Rattle.repetition.specs.Limits.{numbers_per_block};
-ghost use Rattle.repetition.specs.Memory.{block_at, blocks_in};
-ghost use Rattle.listing.specs.Output.{number, line, header};
+ghost use Rattle.arrayvec.specs.ArrayString.{array_string_len};
+ghost use Rattle.listing.specs.Output.{header};
 ghost use Rattle.listing.specs.Promises.{OutputPromise};
-ghost use Rattle.listing.specs.Buffers.{Room, Put, number_room, line_room, header_room, output_room};
+ghost use Rattle.listing.specs.Parts.{numbers_line, HasRoom, line_room, header_room, output_room};
 
-use crate::letters::{put, put_count, put_number};
+use crate::letters::{BLOCK_LIMIT, Output, put_count, put_number};
 use finder::Finder;
 use finder::reply::{Listing, Totals};
 
-// Bytes that an input may have, and blocks that the report has room for.
+// Bytes that an input may have.
 pub const TEXT_LIMIT: usize = 4_096;
 
-const BLOCK_LIMIT: usize = 2_000;
-// Letters of the longest output: a header of 46, and a line of 18 for each block.
-pub const ROOM: usize = 46 + 18 * BLOCK_LIMIT;
+// The numbers of a block, as they stand in a report: half, first start, last start.
+type Numbers = [u16; Finder::NUMBERS_PER_BLOCK];
 
-// Puts a number of the report, and the letter after it.
-fn put_entry(out: &mut [u8], at: usize, report: &[u16], i: usize, letter: u8) -> usize
-    requires { Room out.old at number_room × (i < length report.now) }
-    ensures { Put out.old at number_room (number (get_or report.now i 0) letter) result out.new }
+fn put_block(out: &mut Output, block: &Numbers)
+    requires { HasRoom out.old line_room }
+    ensures puts { out.new.bytes ≡ out.old.bytes ++ numbers_line block.now }
+    ensures short { array_string_len out.new ≤ array_string_len out.old + line_room }
 {
-    put_number(out, at, report[i] as u32, letter)
+    let [half, first, last] = *block;
+    put_number(out, half, " ");
+    put_number(out, first, " ");
+    put_number(out, last, "\n");
 }
 
-// Puts the line of the block that stands in the report after i others.
-fn put_block(out: &mut [u8], at: usize, report: &[u16], i: usize) -> usize
-    requires { Room out.old at line_room × (numbers_per_block * (i + 1) ≤ length report.now) }
-    ensures { Put out.old at line_room (line (block_at report.now i)) result out.new }
+fn put_blocks(out: &mut Output, blocks: &[Numbers])
+    requires { HasRoom out.old (line_room * length blocks.now) }
+    ensures { out.new.bytes ≡ out.old.bytes ++ flat_map numbers_line blocks.now }
 {
-    let place = Finder::NUMBERS_PER_BLOCK * i;
-    let half = put_entry(out, at, report, place, b' ');
-    let first = put_entry(out, half, report, place + 1, b' ');
-    put_entry(out, first, report, place + 2, b'\n')
-}
-
-// Puts the lines of the first blocks of the report.
-fn put_blocks(out: &mut [u8], at: usize, report: &[u16], blocks: usize) -> usize
-    requires { Room out.old at (line_room * blocks) × (numbers_per_block * blocks ≤ length report.now) }
-    ensures { Put out.old at (line_room * blocks) (flat_map line (blocks_in blocks report.now)) result out.new }
-{
-    let mut i = 0;
-    let mut end = at;
-    while i < blocks {
-        end = put_block(out, end, report, i);
-        i += 1;
+    for block in blocks {
+        put_block(out, block);
     }
-    end
 }
 
-fn put_header(out: &mut [u8], totals: Totals) -> usize
-    requires { Room out.old 0 header_room }
-    ensures { Put out.old 0 header_room (header totals.blocks totals.comparisons) result out.new }
+fn put_header(out: &mut Output, totals: Totals)
+    requires { HasRoom out.old header_room }
+    ensures puts { out.new.bytes ≡ out.old.bytes ++ header totals.blocks totals.comparisons }
+    ensures short { array_string_len out.new ≤ array_string_len out.old + header_room }
 {
-    let end = put_count(out, 0, b"repetitions ", totals.blocks, b' ');
-    put_count(out, end, b"comparisons ", totals.comparisons, b'\n')
+    put_count(out, "repetitions ", totals.blocks, " ");
+    put_count(out, "comparisons ", totals.comparisons, "\n");
 }
 
-// Puts the whole output for a text at the front of the buffer.
-#[tactic(auto, using(crate::proofs::Outputs::size_refused, crate::proofs::Outputs::over_refused))]
-pub fn put_output(text: &[u8], out: &mut [u8]) -> usize
-    requires { Room out.old 0 output_room }
-    ensures { OutputPromise text.now out.old result out.new }
+// Puts the whole output for a text.
+#[tactic(auto, using(crate::proofs::Outputs::output_too_long))]
+pub fn put_output(text: &[u8], out: &mut Output)
+    requires { HasRoom out.old output_room }
+    ensures { OutputPromise text.now out.old.bytes out.new.bytes }
 {
     if TEXT_LIMIT < text.len() {
-        return put(out, 0, b"refused 1\n");
+        out.push_str("refused 1\n");
+        return;
     }
     let mut work = [0u16; 2 * TEXT_LIMIT];
     let mut report = [0u16; Finder::NUMBERS_PER_BLOCK * BLOCK_LIMIT];
-    let listing = Finder::list(text, &mut work, &mut report);
-    match listing {
+    match Finder::list(text, &mut work, &mut report) {
         Listing::Finished(totals) => {
-            let end = put_header(out, totals);
-            put_blocks(out, end, &report, totals.blocks as usize)
+            put_header(out, totals);
+            let (blocks, _) = report.as_chunks();
+            put_blocks(out, &blocks[..totals.blocks as usize]);
         }
-        Listing::Full(totals) => put_count(out, 0, b"refused 3 blocks ", totals.blocks, b'\n'),
+        Listing::Full(totals) => put_count(out, "refused 3 blocks ", totals.blocks, "\n"),
         // Neither comes here: the text is within the finder's limit, and has its work space.
-        Listing::TextTooLong => 0,
-        Listing::WorkTooShort => 0,
+        Listing::TextTooLong => unreachable!(),
+        Listing::WorkTooShort => unreachable!(),
     }
 }

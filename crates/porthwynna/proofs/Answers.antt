@@ -1,37 +1,34 @@
 -- What is handed back for an answer that is too short, and for one that is long enough. Assumes nothing.
 use Prim.Native.Nat.{ℕ, ◌≤◌, ◌<◌}
-use mathlib.Core.Path.{◌≡◌, refl, sym, ap, ◌∙◌}
-use mathlib.Core.List.{List, [], ◌∷◌}
-use native.Mathlib.Omega.{arith}
+use mathlib.Core.Path.{◌≡◌, sym, ap, ap₂, ◌∙◌}
+use mathlib.Core.Bool.{Bool, true, false}
+use mathlib.Core.List.{List, [], ◌∷◌, ◌++◌}
 use borrow.Author.Tests.{lt-ltb, le-ltb}
-use lib.ListN.{length, set}
+use lib.ListN.{length, drop}
+use Rattle.std.specs.Array.{IsFirstChunk}
+use Rattle.std.specs.Int.{from_bool}
+use Rattle.std.proofs.Common.{take-append-drop}
 use Rattle.repetition.specs.Memory.{over}
 use Rattle.repetition.specs.Outcomes.{Reply}
-use Rattle.finder.specs.Replies.{reply}
+use Rattle.finder.specs.Replies.{reply, yes_or_no}
 use Rattle.porthwynna.specs.Answers.{answer_too_short, kept_if_short, Back, back, handed_back}
 
 -- ---- values at the front of an answer
 
-pub over_one : (answer : List ℕ) (v : ℕ) → 1 ≤ length answer → set answer 0 v ≡ over (v ∷ []) answer
+pub values_put : {front vs : List ℕ} (answer : List ℕ) → front ≡ vs → front ++ drop (length vs) answer ≡ over vs answer
 unfolding over
-over_one [] v l = absurd (omega arith)
-over_one (x ∷ xs) v l = refl
+values_put answer e = rw e
 
-pub over_two : (answer : List ℕ) (v w : ℕ) → 2 ≤ length answer → set (set answer 0 v) 1 w ≡ over (v ∷ w ∷ []) answer
+-- a yes or a no
+pub yes_put : (answer : List ℕ) (b : Bool) {v : ℕ} → v ≡ from_bool b → v ∷ drop 1 answer ≡ over (yes_or_no b) answer
 unfolding over
-over_two [] v w l = absurd (omega arith)
-over_two (x ∷ []) v w l = absurd (omega arith)
-over_two (x ∷ y ∷ xs) v w l = refl
+yes_put answer true e = rw e
+yes_put answer false e = rw e
 
--- two values that are equal to others
-pub over_same : (answer : List ℕ) {answer_left : List ℕ} {v v' w w' : ℕ} → answer_left ≡ over (v ∷ w ∷ []) answer
-    → v ≡ v' → w ≡ w' → answer_left ≡ over (v' ∷ w' ∷ []) answer
-over_same answer e f g = rw (← f, ← g) e
-
--- a reply without values leaves the answer as it was
-pub over_none : {answer : List ℕ} → answer ≡ over [] answer
+-- no value: the front is as it was
+pub kept : {answer front : List ℕ} {n : ℕ} → IsFirstChunk answer front n → front ++ drop n answer ≡ over [] answer
 unfolding over
-over_none = refl
+kept {answer} {n = n} chunk = rw chunk.same (take-append-drop n answer)
 
 -- what is handed back tells the result and the answer
 pub told : {r : ℕ} {answer_left : List ℕ} {b : Back} → back r answer_left ≡ b → (r ≡ b.number) × (answer_left ≡ b.answer)
@@ -64,9 +61,7 @@ module _ (needs : ℕ) (answer : List ℕ) where
         → q ≡ reply n vs → (r ≡ n) × (answer_left ≡ over vs answer)
     handed e f = told (e ∙ sym (handed_is (sym f)))
 
-    -- the finder's result r is the case k, whose values are put into the answer
-    pub back_enough : {A : Type 0} (number : A → ℕ) (values : A → List ℕ) {q : Reply} {r k : A} {answer_left : List ℕ}
-        → reply (number r) (values r) ≡ q → r ≡ k → answer_left ≡ over (values k) answer
-        → back (number k) answer_left ≡ handed_back needs answer q
-    back_enough number values e is put =
-        ap (back _) put ∙ handed_is (ap (λ a. reply (number a) (values a)) (sym is) ∙ e)
+    -- what is handed back for a reply of number n and values vs
+    pub back_enough : {n r : ℕ} {vs answer_left : List ℕ} {q : Reply} → reply n vs ≡ q → r ≡ n → answer_left ≡ over vs answer
+        → back r answer_left ≡ handed_back needs answer q
+    back_enough e is put = ap₂ back is put ∙ handed_is e

@@ -3,14 +3,16 @@
 // refused before all else.
 #![tactic(auto)]
 
-mod answer;
 mod number;
 mod version;
 
+ghost use Rattle.std.specs.Prelude.{◌≡◌};
+ghost use Rattle.finder.specs.Replies.{totals_values};
 ghost use Rattle.porthwynna.specs.Promises.{ListCall, PlaceCall, FreeCall, LongestCall, RoomCall, VersionCall};
 
+use crate::number::Numbered;
 use finder::Finder;
-use finder::reply::{Freedom, Listing, Longest, Place, Room};
+use finder::reply::{Listing, Totals};
 
 // The list of all repetitions, as blocks in the report. Into the answer: number of blocks K, comparisons C.
 #[unsafe(no_mangle)]
@@ -23,17 +25,16 @@ pub extern "C" fn porthwynna_list(
     ensures { ListCall text.now work.old report.old answer.old
         result work.new report.new answer.new }
 {
-    if answer.len() < answer::TOTALS {
+    let Some(values) = answer.first_chunk_mut() else {
         return number::ANSWER_TOO_SHORT;
-    }
-    let listed = Finder::list(text, work, report);
-    match listed {
+    };
+    match Finder::list(text, work, report) {
         Listing::Finished(totals) => {
-            answer::put_totals(answer, totals);
+            *values = values_of(totals);
             number::DONE
         }
         Listing::Full(totals) => {
-            answer::put_totals(answer, totals);
+            *values = values_of(totals);
             number::FULL
         }
         Listing::TextTooLong => number::TEXT_TOO_LONG,
@@ -41,26 +42,26 @@ pub extern "C" fn porthwynna_list(
     }
 }
 
+fn values_of(totals: Totals) -> [u32; 2]
+    ensures { result ≡ totals_values totals }
+{
+    [totals.blocks, totals.comparisons]
+}
+
 // Does the repetition with this start and half length stand in the text? Into the answer: 1 for yes, 0 for no.
 #[unsafe(no_mangle)]
 pub extern "C" fn porthwynna_stands(text: &[u8], start: u64, half: u64, answer: &mut [u32]) -> u32
     ensures { PlaceCall text.now start half answer.old result answer.new }
 {
-    if answer.len() < answer::YES_OR_NO {
+    let Some(values) = answer.first_chunk_mut() else {
         return number::ANSWER_TOO_SHORT;
-    }
-    let tested = Finder::stands(text, start, half);
-    match tested {
-        Place::Stands => {
-            answer::put_one(answer, answer::YES);
+    };
+    match Finder::stands(text, start, half) {
+        Ok(stands) => {
+            *values = [u32::from(stands)];
             number::DONE
         }
-        Place::DoesNotStand => {
-            answer::put_one(answer, answer::NO);
-            number::DONE
-        }
-        Place::TextTooLong => number::TEXT_TOO_LONG,
-        Place::NoSuchPlace => number::NO_SUCH_PLACE,
+        Err(refusal) => refusal.number(),
     }
 }
 
@@ -70,21 +71,15 @@ pub extern "C" fn porthwynna_is_free(text: &[u8], work: &mut [u16], answer: &mut
     ensures { FreeCall text.now work.old answer.old
         result work.new answer.new }
 {
-    if answer.len() < answer::YES_OR_NO {
+    let Some(values) = answer.first_chunk_mut() else {
         return number::ANSWER_TOO_SHORT;
-    }
-    let tested = Finder::is_free(text, work);
-    match tested {
-        Freedom::Free => {
-            answer::put_one(answer, answer::YES);
+    };
+    match Finder::is_free(text, work) {
+        Ok(free) => {
+            *values = [u32::from(free)];
             number::DONE
         }
-        Freedom::NotFree => {
-            answer::put_one(answer, answer::NO);
-            number::DONE
-        }
-        Freedom::TextTooLong => number::TEXT_TOO_LONG,
-        Freedom::WorkTooShort => number::WORK_TOO_SHORT,
+        Err(refusal) => refusal.number(),
     }
 }
 
@@ -94,23 +89,19 @@ pub extern "C" fn porthwynna_longest(text: &[u8], work: &mut [u16], answer: &mut
     ensures { LongestCall text.now work.old answer.old
         result work.new answer.new }
 {
-    if answer.len() < answer::START_AND_HALF {
+    let Some(values) = answer.first_chunk_mut() else {
         return number::ANSWER_TOO_SHORT;
-    }
-    let found = Finder::longest(text, work);
-    match found {
-        Longest::Found { start, half } => {
-            let start_value = answer::value_of(start);
-            let half_value = answer::value_of(half);
-            answer::put_two(answer, start_value, half_value);
+    };
+    match Finder::longest(text, work) {
+        Ok(Some(found)) => {
+            *values = [found.start as u32, found.half as u32];
             number::DONE
         }
-        Longest::Nothing => {
-            answer::put_two(answer, 0, 0);
+        Ok(None) => {
+            *values = [0, 0];
             number::DONE
         }
-        Longest::TextTooLong => number::TEXT_TOO_LONG,
-        Longest::WorkTooShort => number::WORK_TOO_SHORT,
+        Err(refusal) => refusal.number(),
     }
 }
 
@@ -119,16 +110,15 @@ pub extern "C" fn porthwynna_longest(text: &[u8], work: &mut [u16], answer: &mut
 pub extern "C" fn porthwynna_room(n: usize, answer: &mut [u32]) -> u32
     ensures { RoomCall n answer.old result answer.new }
 {
-    if answer.len() < answer::BLOCKS {
+    let Some(values) = answer.first_chunk_mut() else {
         return number::ANSWER_TOO_SHORT;
-    }
-    let asked = Finder::room(n);
-    match asked {
-        Room::Blocks(blocks) => {
-            answer::put_one(answer, blocks);
+    };
+    match Finder::room(n) {
+        Ok(blocks) => {
+            *values = [blocks];
             number::DONE
         }
-        Room::TextTooLong => number::TEXT_TOO_LONG,
+        Err(too_long) => too_long.number(),
     }
 }
 

@@ -1,7 +1,7 @@
 -- A walk over all positions of a table fills it. Assumes nothing.
 use Prim.Native.Nat.{ℕ, ◌+◌, ◌-◌, ◌*◌, ◌^◌, ◌≤◌, ◌<◌}
 use mathlib.Core.Path.{◌≡◌, refl, sym, ap, ◌∙◌}
-use mathlib.Core.Bool.{true, false}
+use mathlib.Core.Bool.{Bool, true, false}
 use mathlib.Core.List.{List}
 use native.Mathlib.Decide.{dec_lt}
 use native.Mathlib.Omega.{arith}
@@ -12,7 +12,7 @@ use Rattle.repetition.specs.Tables.{match_at, itself}
 use Rattle.repetition.specs.Comparisons.{Walk, start, scanned, after, table_cost}
 use Rattle.repetition.specs.Limits.{length_limit}
 use Rattle.repetition.proofs.Walking.{table_cost_bound}
-use Rattle.tables.specs.declared.look.Looked.{Looked}
+use Rattle.tables.specs.declared.look.Counted.{Counted}
 use Rattle.tables.specs.declared.walk.Piece.{Piece}
 use Rattle.tables.specs.declared.walk.TableAt.{TableAt}
 use Rattle.tables.specs.declared.walk.Stop.{Stop}
@@ -22,7 +22,7 @@ use Rattle.tables.specs.Walks.{table_of, knowing, with_entry, with_table, Own, t
 use Rattle.tables.specs.Progress.{up_to, partly, Filled, Walked, Seeking, Stopped, Further}
 use Rattle.tables.proofs.Letters.{length-read}
 use Rattle.tables.proofs.Walks.{length_walked, tells, cost_fits, asks, can_read, free_next, stop_there}
-use Rattle.tables.proofs.Walks.{Passed, passed, stop_at_match, stop_at_end}
+use Rattle.tables.proofs.Walks.{Passed, passed, stop_at_match}
 use Rattle.tables.proofs.Filled.{partly_none, partly_next}
 
 -- ---- how far a work space has come
@@ -94,31 +94,27 @@ module _ (s work : List ℕ) (a : TableAt) (i : ℕ) (f : Filled s work a i) (l 
 -- ---- a walk that no record helps
 
 module _ (s work : List ℕ) (a : TableAt) (i cost : ℕ) (k : Seeking s work a i cost) where
-  pub seek_ends : a.walked.size ≤ i → Stopped s work a (record { i = i; known = 0; cost = cost })
-  seek_ends end = rw k.so_far (stop_at_end s work a i k.filled end)
-
   module _ (l : i < a.walked.size) where
-    -- What the look and the store at this position need.
+    -- What the look at this position needs.
     pub record Looks : Type 0 where
       pub walked_inside : a.walked.from + i < length s
       pub pattern_inside : a.pattern.from < length s
-      pub entry_inside : a.at + i < length work
       pub fits : cost + 1 < 2 ^ 32
 
     pub seek_looks : Looks
     seek_looks =
         omega (arith, k.filled.placed, k.filled.placed.pieces, k.so_far, cost_fits s work a i k.filled)
 
-    module _ {seen : Looked} (e : seen ≡ looked s (a.walked.from + i) a.pattern.from cost) where
-      told : seen ≡ record { equal = ltb 0 (match_at (table_of s a) i); count = cost + 1 }
+    module _ {seen : Counted Bool} (e : seen ≡ looked s (a.walked.from + i) a.pattern.from cost) where
+      told : seen ≡ record { found = ltb 0 (match_at (table_of s a) i); count = cost + 1 }
       told = tells s a k.filled.placed.pieces i l cost e
 
       -- the first letter matches
-      pub seek_stops : seen.equal ≡ true → Stopped s work a (record { i = i; known = 1; cost = seen.count })
+      pub seek_stops : seen.found ≡ true → Stopped s work a (record { i = i; known = 1; cost = seen.count })
       seek_stops h = rw (told, k.so_far) (stop_at_match s work a i k.filled k.unreached l (rw told at h))
 
       -- it does not
-      module _ (h : seen.equal ≡ false) where
+      module _ (h : seen.found ≡ false) where
         pass : Passed s work a i k.filled k.unreached
         pass = passed s work a i k.filled k.unreached l (rw told at h)
 
@@ -137,15 +133,6 @@ module _ (s work : List ℕ) (a : TableAt) (i cost : ℕ) (k : Seeking s work a 
 -- ---- a walk whose record reaches position i
 
 module _ (s work : List ℕ) (a : TableAt) (i : ℕ) (w : Walk) (k : Walked s work a i w) where
-  -- It does not any more.
-  pub follow_ends : w.e ≤ i → Seeking s work a i w.cost
-  follow_ends end =
-      record {
-        filled = k.filled;
-        unreached = rw (← k.walk) end;
-        so_far = ap (λ (v : Walk). v.cost) k.walk;
-      }
-
   module _ (l : i < w.e) where
     follow_inside : i < a.walked.size
     follow_inside = omega (arith, asks s work a i k.filled w k.walk l)
@@ -243,18 +230,7 @@ module _ (s work₀ : List ℕ) (a : TableAt) (count : ℕ) (can : CanFill s wor
           table_cost_bound (table_of s a) (omega (arith, can.placed.pieces)),
         )
 
-  -- A table without a position is filled as it stands.
-  pub fills_none : a.walked.size ≤ a.first → Fills s work₀ a count count work₀
-  unfolding with_table partly table_cost after
-  fills_none none =
-      let walked = length_walked s a can.placed.pieces in
-      let no_cost = ap (λ (n : ℕ). (after (table_of s a) n).cost) {x = 0} {y = length (table_of s a).walked - a.first} (omega arith) in
-      record {
-        counts = omega (arith, no_cost);
-        leaves_work = partly_none (table_of s a) a.at (length (table_of s a).walked) work₀ (omega arith);
-      }
-
--- The table of a piece of one letter against itself has none: it costs nothing, and nothing is put in the work space.
+-- The table of a piece of one letter against itself has no position: it costs nothing, and nothing is put in the work space.
 module _ (s : List ℕ) (p : Piece) (lies : p.from + p.size ≤ length s) (short : p.size < 2) where
   pub one_letter_cost : table_cost (itself (read s p)) ≡ 0
   unfolding table_cost after

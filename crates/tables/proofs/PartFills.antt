@@ -1,5 +1,5 @@
 -- The four tables of a part are filled one after the other: what each filling needs, and what it leaves. Assumes nothing.
-use Prim.Native.Nat.{ℕ, ◌+◌, ◌-◌, ◌*◌, ◌≤◌}
+use Prim.Native.Nat.{ℕ, ◌+◌, ◌*◌, ◌≤◌}
 use mathlib.Core.Path.{◌≡◌, refl, ap, ap₂, ◌∙◌}
 use mathlib.Core.List.{List, reverse}
 use native.Mathlib.Nat.{zero-add}
@@ -9,12 +9,11 @@ use Rattle.repetition.specs.Cutting.{Part, cut_of}
 use Rattle.repetition.specs.Tables.{Table, itself, against, left_piece, right_piece, v_itself, u_back_itself, v_back_against_u_back, u_against_v}
 use Rattle.repetition.specs.Comparisons.{table_cost, part_comparisons}
 use Rattle.repetition.proofs.Walking.{table_cost_bound}
-use Rattle.tables.specs.declared.CutPart.{CutPart}
 use Rattle.tables.specs.declared.walk.Piece.{Piece}
 use Rattle.tables.specs.declared.walk.TableAt.{TableAt}
 use Rattle.tables.specs.Letters.{both_ways, text_of, BothWays, read, backward_at}
 use Rattle.tables.specs.Walks.{itself_at, against_at, table_of, with_table, this, earlier, CanFill, Fills}
-use Rattle.tables.specs.Parts.{whole, IsCut, letters, letters_v, with_tables, CanFillPart}
+use Rattle.tables.specs.Parts.{letters, letters_v, piece_u, piece_v, with_tables, CanFillPart}
 use Rattle.tables.specs.Promises.{TablesPromise}
 use Rattle.tables.proofs.Letters.{length_both, read_forward, read_backward}
 use Rattle.tables.proofs.Fills.{fills_same}
@@ -33,12 +32,6 @@ abbrev cost_3 : List ℕ → Part → ℕ
 cost_3 t q = cost_2 t q + table_cost (v_back_against_u_back t q)
 
 -- ---- a part's pieces, and the four tables of them
-
-abbrev piece_u : Part → Piece
-piece_u q = record { from = q.from; size = cut_of q - q.from }
-
-abbrev piece_v : Part → Piece
-piece_v q = record { from = cut_of q; size = letters_v q }
 
 abbrev first_at : Part → TableAt
 first_at q = itself_at (piece_v q) 0
@@ -138,7 +131,17 @@ module _ (t s work : List ℕ) (q : Part) (count : ℕ) (lent : s ≡ both_ways 
         fits = omega (arith, bounds, can);
       }
 
+  pub u_inside : {u : Piece} → u ≡ piece_u q → u.from + u.size ≤ length s
+  u_inside e = rw e (omega (arith, can, bounds))
+
+  pub v_inside : {v : Piece} → v ≡ piece_v q → v.from + v.size ≤ length s
+  v_inside e = rw e (omega (arith, can, bounds))
+
 -- ---- the four fillings, one after the other, as the code lays the tables
+
+-- the letters that are lent are the text's
+pub are_lent : {s t : List ℕ} → BothWays s → text_of s ≡ t → s ≡ both_ways t
+are_lent both e = both ∙ ap both_ways e
 
 -- a filling of the table m, whose letters are s
 filled_as : {s work work_left : List ℕ} {a : TableAt} {m : Table} {count n : ℕ} → table_of s a ≡ m
@@ -148,84 +151,58 @@ filled_as {work = work} {a = a} {count = count} e f = (
   f.leaves_work ∙ ap (λ (x : Table). with_table x a.at work) e,
 )
 
--- The pieces have their letters one after the other, and lie in the letters.
-pub record Lying (s : List ℕ) (q : CutPart) : Type 0 where
-  pub u_ordered : q.from ≤ q.cut
-  pub v_ordered : q.cut ≤ q.to
-  pub inside : q.to ≤ length s
+module _ (t s work : List ℕ) (q : Part) (count : ℕ) (lent : s ≡ both_ways t) (can : CanFillPart t work q count)
+    {u v u_back v_back : Piece} (u_is : u ≡ piece_u q) (v_is : v ≡ piece_v q)
+    (u_back_is : u_back ≡ backward_at u (length s)) (v_back_is : v_back ≡ backward_at v (length s)) where
+  second_laid : itself_at u_back v.size ≡ second_at s q
+  second_laid = rw (u_back_is, u_is, v_is)
 
-abbrev code_u : CutPart → Piece
-code_u q = record { from = q.from; size = q.cut - q.from }
+  pub fill_1 : CanFill s work (itself_at v 0) count
+  fill_1 = rw v_is (can_fill_1 t s work q count lent can)
 
-abbrev code_v : CutPart → Piece
-code_v q = record { from = q.cut; size = q.to - q.cut }
+  module _ {n₁ : ℕ} {w₁ : List ℕ} (f₁ : Fills s work (itself_at v 0) count n₁ w₁) where
+    left_1 : (n₁ ≡ count + cost_1 t q) × (w₁ ≡ after_1 t q work)
+    left_1 = filled_as (first_is t s work q count lent can) (rw v_is at f₁)
 
-module _ (s work : List ℕ) (q : CutPart) (count : ℕ) (both : BothWays s) (cut_is : IsCut q)
-    (can : CanFillPart (text_of s) work (whole q) count) where
-  abbrev t : List ℕ
-  t = text_of s
+    pub fill_2 : CanFill s w₁ (itself_at u_back v.size) n₁
+    fill_2 = rw second_laid (can_fill_2 t s work q count lent can left_1)
 
-  pub lying : Lying s q
-  lying = omega (arith, can.placed, (bounds t s work (whole q) count both can).long, (sizes t work (whole q) can.placed).between)
+    module _ {n₂ : ℕ} {w₂ : List ℕ} (f₂ : Fills s w₁ (itself_at u_back v.size) n₁ n₂ w₂)
+        {m : ℕ} (m_is : m ≡ letters q) {a₃ : TableAt} (e₃ : a₃ ≡ against_at v_back u_back v.size m) where
+      left_2 : (n₂ ≡ count + cost_2 t q) × (w₂ ≡ after_2 t q work)
+      left_2 =
+          let l = left_1 in
+          let g = rw l.1 at (filled_as (second_is t s work q count lent can) (fills_same s w₁ n₁ second_laid f₂)) in
+          (omega arith, g.1)
 
-  -- how many letters the part has, and where its fourth table stands
-  whole_letters : q.cut - q.from + (q.to - q.cut) ≡ letters (whole q)
-  whole_letters = omega (arith, lying)
+      third_laid : a₃ ≡ third_at s q
+      third_laid = e₃ ∙ rw (u_back_is, v_back_is, u_is, v_is, m_is)
 
-  module _ {u_back v_back : Piece} (u_is : u_back ≡ backward_at (code_u q) (length s))
-      (v_is : v_back ≡ backward_at (code_v q) (length s)) where
-    first_laid : itself_at (code_v q) 0 ≡ first_at (whole q)
-    first_laid = rw cut_is
+      pub fill_3 : CanFill s w₂ a₃ n₂
+      fill_3 = rw third_laid (can_fill_3 t s work q count lent can left_2)
 
-    second_laid : itself_at u_back (q.to - q.cut) ≡ second_at s (whole q)
-    second_laid = rw (u_is, cut_is)
-
-    pub fill_1 : CanFill s work (itself_at (code_v q) 0) count
-    fill_1 = rw first_laid (can_fill_1 t s work (whole q) count both can)
-
-    module _ {n₁ : ℕ} {w₁ : List ℕ} (f₁ : Fills s work (itself_at (code_v q) 0) count n₁ w₁) where
-      left_1 : (n₁ ≡ count + cost_1 t (whole q)) × (w₁ ≡ after_1 t (whole q) work)
-      left_1 = filled_as (first_is t s work (whole q) count both can) (fills_same s work count first_laid f₁)
-
-      pub fill_2 : CanFill s w₁ (itself_at u_back (q.to - q.cut)) n₁
-      fill_2 = rw second_laid (can_fill_2 t s work (whole q) count both can left_1)
-
-      module _ {n₂ : ℕ} {w₂ : List ℕ} (f₂ : Fills s w₁ (itself_at u_back (q.to - q.cut)) n₁ n₂ w₂) {a₃ : TableAt}
-          (e₃ : a₃ ≡ against_at v_back u_back (q.to - q.cut) (q.cut - q.from + (q.to - q.cut))) where
-        left_2 : (n₂ ≡ count + cost_2 t (whole q)) × (w₂ ≡ after_2 t (whole q) work)
-        left_2 =
-            let l = left_1 in
-            let g = rw l.1 at (filled_as (second_is t s work (whole q) count both can) (fills_same s w₁ n₁ second_laid f₂)) in
+      module _ {n₃ : ℕ} {w₃ : List ℕ} (f₃ : Fills s w₂ a₃ n₂ n₃ w₃) {a₄ : TableAt}
+          (e₄ : a₄ ≡ against_at u v 0 (m + v.size)) where
+        left_3 : (n₃ ≡ count + cost_3 t q) × (w₃ ≡ after_3 t q work)
+        left_3 =
+            let l = left_2 in
+            let g = rw l.1 at (filled_as (third_is t s work q count lent can) (fills_same s w₂ n₂ third_laid f₃)) in
             (omega arith, g.1)
 
-        third_laid : a₃ ≡ third_at s (whole q)
-        third_laid = e₃ ∙ rw (u_is, v_is, whole_letters, cut_is)
+        fourth_laid : a₄ ≡ fourth_at q
+        fourth_laid = e₄ ∙ rw (m_is, u_is, v_is)
 
-        pub fill_3 : CanFill s w₂ a₃ n₂
-        fill_3 = rw third_laid (can_fill_3 t s work (whole q) count both can left_2)
+        pub fill_4 : CanFill s w₃ a₄ n₃
+        fill_4 = rw fourth_laid (can_fill_4 t s work q count lent can left_3)
 
-        module _ {n₃ : ℕ} {w₃ : List ℕ} (f₃ : Fills s w₂ a₃ n₂ n₃ w₃) {a₄ : TableAt}
-            (e₄ : a₄ ≡ against_at (code_u q) (code_v q) 0 (q.cut - q.from + (q.to - q.cut) + (q.to - q.cut))) where
-          left_3 : (n₃ ≡ count + cost_3 t (whole q)) × (w₃ ≡ after_3 t (whole q) work)
-          left_3 =
-              let l = left_2 in
-              let g = rw l.1 at (filled_as (third_is t s work (whole q) count both can) (fills_same s w₂ n₂ third_laid f₃)) in
+        module _ {n₄ : ℕ} {w₄ : List ℕ} (f₄ : Fills s w₃ a₄ n₃ n₄ w₄) where
+          left_4 : (n₄ ≡ count + cost_3 t q + table_cost (u_against_v t q))
+              × (w₄ ≡ with_table (u_against_v t q) (letters q + letters_v q) (after_3 t q work))
+          left_4 =
+              let l = left_3 in
+              let g = rw l.1 at (filled_as (fourth_is t s work q count lent can) (fills_same s w₃ n₃ fourth_laid f₄)) in
               (omega arith, g.1)
 
-          fourth_laid : a₄ ≡ fourth_at (whole q)
-          fourth_laid = e₄ ∙ rw (whole_letters, cut_is)
-
-          pub fill_4 : CanFill s w₃ a₄ n₃
-          fill_4 = rw fourth_laid (can_fill_4 t s work (whole q) count both can left_3)
-
-          module _ {n₄ : ℕ} {w₄ : List ℕ} (f₄ : Fills s w₃ a₄ n₃ n₄ w₄) where
-            left_4 : (n₄ ≡ count + cost_3 t (whole q) + table_cost (u_against_v t (whole q)))
-                × (w₄ ≡ with_table (u_against_v t (whole q)) (letters (whole q) + letters_v (whole q)) (after_3 t (whole q) work))
-            left_4 =
-                let l = left_3 in
-                let g = rw l.1 at (filled_as (fourth_is t s work (whole q) count both can) (fills_same s w₃ n₃ fourth_laid f₄)) in
-                (omega arith, g.1)
-
-            pub four_filled : TablesPromise t work (whole q) count n₄ w₄
-            unfolding part_comparisons with_tables
-            four_filled = record { counts = omega (arith, left_4.0); leaves_work = left_4.1 }
+          pub four_filled : TablesPromise t work q count n₄ w₄
+          unfolding part_comparisons with_tables
+          four_filled = record { counts = omega (arith, left_4.0); leaves_work = left_4.1 }

@@ -13,7 +13,7 @@ use Rattle.repetition.specs.Tables.{matched}
 use Rattle.repetition.proofs.Lists.{same_test}
 use Rattle.repetition.proofs.Agreement.{Run, run_of, match_run}
 use Rattle.tables.specs.declared.walk.Piece.{Piece}
-use Rattle.tables.specs.declared.look.Looked.{Looked}
+use Rattle.tables.specs.declared.look.Counted.{Counted}
 use Rattle.tables.specs.Letters.{read}
 use Rattle.tables.specs.Looks.{looked, common, CanScan, scan_of}
 use Rattle.tables.proofs.Letters.{length-read, letter_read}
@@ -90,9 +90,9 @@ pub record Scanning (s : List ℕ) (a b room known count looks on : ℕ) : Type 
   pub counted : looks ≡ count + (on - known)
 
 -- It goes on after equal letters, and has its outcome after others.
-pub record Next (s : List ℕ) (a b room known count on : ℕ) (seen : Looked) : Type 0 where
-  pub goes_on : seen.equal ≡ true → Scanning s a b room known count seen.count (on + 1)
-  pub stops : seen.equal ≡ false → record { len = on; count = seen.count } ≡ scan_of s a b room known count
+pub record Next (s : List ℕ) (a b room known count on : ℕ) (seen : Counted Bool) : Type 0 where
+  pub goes_on : seen.found ≡ true → Scanning s a b room known count seen.count (on + 1)
+  pub stops : seen.found ≡ false → record { found = on; count = seen.count } ≡ scan_of s a b room known count
 
 module _ (s : List ℕ) (a b room known count : ℕ) (can : CanScan s a b room known count)
     (looks on : ℕ) (g : Scanning s a b room known count looks on) where
@@ -100,23 +100,23 @@ module _ (s : List ℕ) (a b room known count : ℕ) (can : CanScan s a b room k
   the_run = common_run s a b room can.reads_a can.reads_b
 
   -- the room ends
-  pub scan_ends : room ≤ on → record { len = on; count = looks } ≡ scan_of s a b room known count
+  pub scan_ends : room ≤ on → record { found = on; count = looks } ≡ scan_of s a b room known count
   unfolding scan_of
   scan_ends l =
       let e : common s a b room ≡ on = omega (arith, the_run) in
       rw (e, le-ltb on room l, add-zero (on - known), g.counted)
 
   -- after a look at the next two letters
-  pub scan_looked : on < room → {seen : Looked} → seen ≡ looked s (a + on) (b + on) looks → Next s a b room known count on seen
+  pub scan_looked : on < room → {seen : Counted Bool} → seen ≡ looked s (a + on) (b + on) looks → Next s a b room known count on seen
   unfolding scan_of
   scan_looked l {seen} e =
       record {
         goes_on = λ h.
-            omega (arith, run_on the_run on l g.same (eqb-true _ _ (told h)), ap (λ (r : Looked). r.count) e);
+            omega (arith, run_on the_run on l g.same (eqb-true _ _ (told h)), ap (λ (r : Counted Bool). r.count) e);
         stops = λ h.
             let f : common s a b room ≡ on = run_ends the_run on g.same (eqb-false _ _ (told h)) in
             rw (e, f, lt-ltb on room l, g.counted, add_assoc count (on - known) 1);
       }
     where
-      told : {b' : Bool} → seen.equal ≡ b' → eqb (get_or s (a + on) 0) (get_or s (b + on) 0) ≡ b'
+      told : {b' : Bool} → seen.found ≡ b' → eqb (get_or s (a + on) 0) (get_or s (b + on) 0) ≡ b'
       told h = rw e at h

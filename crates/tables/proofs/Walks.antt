@@ -1,7 +1,7 @@
 -- One position of a walk over a table that is placed in the work space: what a scan and a look find there, and what the work
 -- space tells of it. Assumes nothing.
-use Prim.Native.Nat.{ℕ, suc, ◌+◌, ◌-◌, ◌^◌, ◌≤◌, ◌<◌, min}
-use mathlib.Core.Path.{◌≡◌, refl, sym, ap, ◌∙◌}
+use Prim.Native.Nat.{ℕ, suc, ◌+◌, ◌-◌, ◌*◌, ◌^◌, ◌≤◌, ◌<◌, min}
+use mathlib.Core.Path.{◌≡◌, sym, ap, ◌∙◌}
 use mathlib.Core.Bool.{Bool, true, false, ◌&&◌, and-eq-true_iff}
 use mathlib.Core.List.{List}
 use native.Mathlib.Nat.{add-zero}
@@ -12,12 +12,12 @@ use borrow.Author.Tests.{lt-ltb, le-ltb, ltb-true, ltb-false}
 use Rattle.repetition.specs.Numbers.{one_if}
 use Rattle.repetition.specs.Tables.{Table, matched, match_at}
 use Rattle.repetition.specs.Comparisons.{Walk, free, scan_cost, scanned}
+use Rattle.repetition.specs.Limits.{length_limit}
 use Rattle.repetition.proofs.Lists.{same_test}
 use Rattle.repetition.proofs.Matching.{match_at_is}
 use Rattle.repetition.proofs.Walking.{Alive, own, free_match, scan_from, walk_cost}
 use Rattle.repetition.proofs.Walking.{after_free, after_scanned, after_alive}
-use Rattle.tables.specs.declared.look.Looked.{Looked}
-use Rattle.tables.specs.declared.look.Scanned.{Scanned}
+use Rattle.tables.specs.declared.look.Counted.{Counted}
 use Rattle.tables.specs.declared.walk.Piece.{Piece}
 use Rattle.tables.specs.declared.walk.TableAt.{TableAt}
 use Rattle.tables.specs.Letters.{read}
@@ -76,8 +76,8 @@ module _ (s : List ℕ) (a : TableAt) (p : InLetters s a) where
     found = match_common s a.pattern a.walked i p.pattern_to p.walked_to (omega arith)
 
     -- A look at the first letter tells whether the match length is at least 1.
-    pub tells : (count : ℕ) {seen : Looked} → seen ≡ looked s (a.walked.from + i) a.pattern.from count
-        → seen ≡ record { equal = ltb 0 (match_at (table_of s a) i); count = count + 1 }
+    pub tells : (count : ℕ) {seen : Counted Bool} → seen ≡ looked s (a.walked.from + i) a.pattern.from count
+        → seen ≡ record { found = ltb 0 (match_at (table_of s a) i); count = count + 1 }
     tells count e =
         e
         ∙ rw (
@@ -86,10 +86,11 @@ module _ (s : List ℕ) (a : TableAt) (p : InLetters s a) where
         )
 
 -- What a scan finds is the rule's.
-pub record Found (s : List ℕ) (a : TableAt) (i : ℕ) (w : Walk) (r : Scanned) : Type 0 where
-  pub match : r.len ≡ match_at (table_of s a) i
-  pub short : i + r.len ≤ a.walked.size
-  pub walk : record { k = i; e = i + r.len; cost = r.count } ≡ scanned (table_of s a) i w
+pub record Found (s : List ℕ) (a : TableAt) (i : ℕ) (w : Walk) (r : Counted ℕ) : Type 0 where
+  pub match : r.found ≡ match_at (table_of s a) i
+  pub short : i + r.found ≤ a.walked.size
+  pub limit : i + r.found ≤ 2 * length_limit
+  pub walk : record { k = i; e = i + r.found; cost = r.count } ≡ scanned (table_of s a) i w
 
 module _ (s work : List ℕ) (a : TableAt) (i known cost : ℕ) (h : CanScanAt s work a i (knowing i known cost))
     {room : ℕ} (e : room ≡ room_of a i) where
@@ -103,18 +104,19 @@ module _ (s work : List ℕ) (a : TableAt) (i known cost : ℕ) (h : CanScanAt s
         fits = omega (arith, h.fits);
       }
 
-  pub scan_finds : {r : Scanned} → r ≡ scan_of s (a.walked.from + i) a.pattern.from room known cost
+  pub scan_finds : {r : Counted ℕ} → r ≡ scan_of s (a.walked.from + i) a.pattern.from room known cost
       → Found s a i (knowing i known cost) r
   unfolding scan_of scanned scan_cost
   scan_finds {r} f =
       let p = h.placed.pieces in
       let L = match_at (table_of s a) i in
-      let same : r ≡ record { len = L; count = cost + (L - known + one_if (ltb L (room_of a i))) } =
+      let same : r ≡ record { found = L; count = cost + (L - known + one_if (ltb L (room_of a i))) } =
       rw (found s a p i h.inside, ← e) f in
       let from_known : i + known - i ≡ known = omega arith in
       record {
         match = rw same;
         short = rw same (match_within s a p i (omega (arith, h.inside)));
+        limit = rw same (omega (arith, match_within s a p i (omega (arith, h.inside)), p, h.placed));
         walk =
             rw (
               same,
@@ -287,13 +289,3 @@ module _ (s work : List ℕ) (a : TableAt) (i : ℕ) (f : Filled s work a i) whe
           };
           scans = λ _. look_first (table_of s a) i (up_to (table_of s a) i) unreached one ∙ sym seeks_next;
         }
-
-  -- at the end
-  pub stop_at_end : a.walked.size ≤ i → Stopped s work a (record { i = i; known = 0; cost = (up_to (table_of s a) i).cost })
-  stop_at_end end =
-      record {
-        filled = f;
-        ended = λ _. refl;
-        scannable = λ l. absurd (omega arith);
-        scans = λ l. absurd (omega arith);
-      }

@@ -3,15 +3,18 @@
 #![tactic(auto)]
 
 mod look;
+mod part;
+pub mod text;
 mod walk;
 
-ghost use Rattle.std.specs.Prelude.{◌≡◌, ◌+◌, ◌≤◌};
+ghost use Rattle.std.specs.Prelude.{◌≤◌};
 ghost use Rattle.repetition.specs.Limits.{length_limit};
-ghost use Rattle.tables.specs.Letters.{text_of, BothWays, backward_at};
-ghost use Rattle.tables.specs.Parts.{whole, IsCut, CanFillPart};
+ghost use Rattle.tables.specs.Parts.{CanFillPart};
 ghost use Rattle.tables.specs.Promises.{CutPromise, TablesPromise};
 
-use crate::walk::Piece;
+use crate::text::Letters;
+use crate::walk::TableAt;
+pub use part::CutPart;
 
 // Where a part is cut.
 pub fn cut_at(from: usize, to: usize) -> usize
@@ -21,52 +24,25 @@ pub fn cut_at(from: usize, to: usize) -> usize
     from + (to - from + 1) / 2
 }
 
-// A part, and where it is cut.
-#[derive(Clone, Copy)]
-pub struct CutPart {
-    pub from: usize,
-    pub cut: usize,
-    pub to: usize,
-}
-
-// A piece of the text read backward, as it lies in letters that end at this place.
-fn backward(piece: Piece, end: usize) -> Piece
-    requires { piece.from + piece.size ≤ end }
-    ensures { result ≡ backward_at piece end }
-{
-    Piece {
-        from: end - (piece.from + piece.size),
-        size: piece.size,
-    }
-}
-
 // Fills the four tables of a part, in document 01's order. The count of comparisons is raised by the part's.
-pub fn fill_tables(letters: &[u16], work: &mut [u16], part: CutPart, count: u32) -> u32
-    requires { BothWays letters.now × IsCut part × CanFillPart (text_of letters.now) work.old (whole part) count }
-    ensures { TablesPromise (text_of letters.now) work.old (whole part) count result work.new }
+pub fn fill_tables(letters: &Letters, work: &mut [u16], part: CutPart, count: u32) -> u32
+    requires { CanFillPart letters.now work.old part count }
+    ensures { TablesPromise letters.now work.old part count result work.new }
 {
-    let letters_u = part.cut - part.from;
-    let letters_v = part.to - part.cut;
-    let u = Piece {
-        from: part.from,
-        size: letters_u,
-    };
-    let v = Piece {
-        from: part.cut,
-        size: letters_v,
-    };
-    let end = letters.len();
-    let u_back = backward(u, end);
-    let v_back = backward(v, end);
-    let third = letters_u + letters_v;
-    let fourth = third + letters_v;
-    let after_first = walk::fill_itself(letters, work, v, 0, count);
-    let after_second = walk::fill_itself(letters, work, u_back, letters_v, after_first);
-    let after_third = walk::fill(
-        letters,
+    let both_ways = letters.both_ways;
+    let end = both_ways.len();
+    let u = part.u();
+    let v = part.v();
+    let u_back = u.backward(end);
+    let v_back = v.backward(end);
+    let third = part.letters();
+    let fourth = third + v.size;
+    let after_first = v.fill_itself(both_ways, work, 0, count);
+    let after_second = u_back.fill_itself(both_ways, work, v.size, after_first);
+    let after_third = TableAt::against(v_back, u_back, v.size, third).fill(
+        both_ways,
         work,
-        walk::against(v_back, u_back, letters_v, third),
         after_second,
     );
-    walk::fill(letters, work, walk::against(u, v, 0, fourth), after_third)
+    TableAt::against(u, v, 0, fourth).fill(both_ways, work, after_third)
 }

@@ -1,58 +1,26 @@
-// What is right, found from the letters alone and by nothing of the finder.
-ghost use Rattle.std.specs.Prelude.{◌≡◌, ◌+◌, ◌*◌, ◌^◌, ◌<◌, ◌≤◌, true, length};
+// What is right of a text, found from its letters alone and by nothing of the finder.
+use crate::texts::Text;
 
-use crate::texts::MOST_LETTERS;
-
-pub fn is_place(letters: usize, start: usize, half: usize) -> bool
-    requires { start + 2 * half < 2 ^ 64 }
-    ensures { result ≡ true → start + 2 * half ≤ letters }
-{
-    start + 2 * half <= letters && half != 0
-}
-
-// Are the two halves the same, letter by letter?
-fn is_double(text: &[u8], start: usize, half: usize) -> bool
-    requires { start + 2 * half ≤ length text.now }
-{
-    for k in 0..half {
-        if text[start + k] != text[start + half + k] {
-            return false;
+impl Text<'_> {
+    // Does a repetition stand there? None if the text has no such place.
+    pub fn stands(self, start: usize, half: usize) -> Option<bool> {
+        if half == 0 {
+            return None;
         }
+        let rest = self.letters.get(start..)?;
+        let one = rest.get(..half)?;
+        let other = rest.get(half..)?.get(..half)?;
+        Some(one == other)
     }
-    true
-}
 
-pub fn stands(text: &[u8], start: usize, half: usize) -> bool
-    requires { start + 2 * half < 2 ^ 64 }
-{
-    is_place(text.len(), start, half) && is_double(text, start, half)
-}
-
-// The smallest number of doublings of 1 that come to so many letters.
-fn depth(letters: usize) -> usize
-    requires { letters ≤ MOST_LETTERS }
-    ensures { result ≤ MOST_LETTERS }
-{
-    let mut depth = 0;
-    let mut power = 1;
-    while power < letters {
-        power *= 2;
-        depth += 1;
+    // The bound on its blocks: its letters times their depth, the smallest number of doublings of 1 that come to as many.
+    pub fn block_bound(self) -> u32 {
+        let letters = self.letters.len() as u32;
+        letters * letters.next_power_of_two().trailing_zeros()
     }
-    depth
-}
 
-// The bound on the blocks of a text: its letters times their depth.
-pub fn block_bound(letters: usize) -> usize
-    requires { letters ≤ MOST_LETTERS }
-    ensures { result ≤ letters * MOST_LETTERS }
-{
-    letters * depth(letters)
-}
-
-// The bound on its comparisons: four times as many.
-pub fn comparison_bound(letters: usize) -> usize
-    requires { letters ≤ MOST_LETTERS }
-{
-    4 * block_bound(letters)
+    // The bound on its comparisons: four times as many.
+    pub fn comparison_bound(self) -> u64 {
+        4 * u64::from(self.block_bound())
+    }
 }

@@ -1,50 +1,55 @@
 // What is counted. A count wraps past 64 bits, which no run comes near.
-use std::num::wrapping_add_u64;
+use std::fmt;
+use std::num::Wrapping;
+use std::ops::AddAssign;
 
-#[derive(Clone, Copy)]
+type Count = Wrapping<u64>;
+
+#[derive(Clone, Copy, Default)]
 pub struct Counts {
-    pub texts: u64,
-    pub places: u64,
-    pub repetitions: u64,
-    pub blocks: u64,
-    pub comparisons: u64,
-    pub disagreed: u64,
+    pub texts: Count,
+    pub places: Count,
+    pub repetitions: Count,
+    pub blocks: Count,
+    pub comparisons: Count,
+    pub disagreed: Count,
 }
 
 impl Counts {
-    pub fn none() -> Counts {
-        Counts {
-            texts: 0,
-            places: 0,
-            repetitions: 0,
-            blocks: 0,
-            comparisons: 0,
-            disagreed: 0,
-        }
-    }
-
-    pub fn plus(self, more: Counts) -> Counts {
-        Counts {
-            texts: wrapping_add_u64(self.texts, more.texts),
-            places: wrapping_add_u64(self.places, more.places),
-            repetitions: wrapping_add_u64(self.repetitions, more.repetitions),
-            blocks: wrapping_add_u64(self.blocks, more.blocks),
-            comparisons: wrapping_add_u64(self.comparisons, more.comparisons),
-            disagreed: wrapping_add_u64(self.disagreed, more.disagreed),
-        }
-    }
-
-    // With one more that disagrees, unless it agrees.
-    pub fn judged(mut self, agrees: bool) -> Counts {
-        self.disagreed = one_more_if(!agrees, self.disagreed);
-        self
+    // Counts the answers that disagreed with what is right: those that are false.
+    pub fn judge(&mut self, agreed: &[bool]) {
+        self.disagreed += agreed.iter().filter(|agrees| !**agrees).count() as u64;
     }
 }
 
-pub fn one_more_if(counts: bool, number: u64) -> u64 {
-    if counts {
-        wrapping_add_u64(number, 1)
-    } else {
-        number
+impl AddAssign for Counts {
+    fn add_assign(&mut self, more: Counts) {
+        self.texts += more.texts;
+        self.places += more.places;
+        self.repetitions += more.repetitions;
+        self.blocks += more.blocks;
+        self.comparisons += more.comparisons;
+        self.disagreed += more.disagreed;
+    }
+}
+
+impl fmt::Display for Counts {
+    fn fmt<W: fmt::Write>(&self, f: &mut fmt::Formatter<W>) -> fmt::Result {
+        let Counts {
+            texts,
+            places,
+            repetitions,
+            blocks,
+            comparisons,
+            disagreed,
+        } = *self;
+        write!(
+            f,
+            "{texts} texts, {places} places, {repetitions} repetitions, "
+        )?;
+        write!(
+            f,
+            "{blocks} blocks, {comparisons} comparisons, {disagreed} disagreed"
+        )
     }
 }

@@ -13,37 +13,23 @@ mod texts;
 ghost use Rattle.std.specs.Prelude.{◌≤◌, length};
 
 use crate::counts::Counts;
-use crate::texts::MOST_LETTERS;
+use crate::texts::{MOST_LETTERS, Text};
 use std::io;
 
-// All texts over an alphabet that fit into the space.
-fn try_lengths(alphabet: &[u8], text: &mut [u8]) -> Counts
-    requires { length text.old ≤ MOST_LETTERS }
+// Prints the line of a run over all texts that fit into the space: of each length, every number up to the first that spells none.
+fn run(rt: &impl Print, name: &str, alphabet: &[u8], space: &mut [u8]) -> io::Result<()>
+    requires { length space.old ≤ MOST_LETTERS }
 {
-    let mut counts = Counts::none();
-    for letters in 0..text.len() + 1 {
-        counts = texts::try_length(alphabet, &mut text[..letters], counts);
+    let mut counts = Counts::default();
+    for letters in 0..=space.len() {
+        for number in 0..usize::MAX {
+            let Some(text) = Text::spell(number, alphabet, &mut space[..letters]) else {
+                break;
+            };
+            counts += entries::try_text(text);
+        }
     }
-    counts
-}
-
-fn print_number(rt: &impl Print, number: u64, what: &str) -> io::Result<()> {
-    print!(rt; "{number}{what}")
-}
-
-// Prints the line of a run over all texts that fit into the space.
-fn run(rt: &impl Print, name: &str, alphabet: &[u8], text: &mut [u8]) -> io::Result<()>
-    requires { length text.old ≤ MOST_LETTERS }
-{
-    let counts = try_lengths(alphabet, text);
-    print!(rt; "{name}, up to ")?;
-    print_number(rt, text.len() as u64, ": ")?;
-    print_number(rt, counts.texts, " texts, ")?;
-    print_number(rt, counts.places, " places, ")?;
-    print_number(rt, counts.repetitions, " repetitions, ")?;
-    print_number(rt, counts.blocks, " blocks, ")?;
-    print_number(rt, counts.comparisons, " comparisons, ")?;
-    print_number(rt, counts.disagreed, " disagreed\n")
+    println!(rt; "{name}, up to {}: {counts}", space.len())
 }
 
 fn main(rt: HostRuntime) -> io::Result<()> {

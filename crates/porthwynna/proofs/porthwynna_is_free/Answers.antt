@@ -1,25 +1,14 @@
 -- `porthwynna::porthwynna_is_free` meets its contract. Assumes nothing.
-use Rattle.std.proofs.Common.{rules}
-use Rattle.porthwynna.proofs.Answers.{over_none}
+use Rattle.std.proofs.Common.{refl}
+use Rattle.porthwynna.proofs.Answers.{yes_put, kept}
 use Rattle.porthwynna.proofs.Calls.{free_short, free_call}
 use Rattle.porthwynna.proofs.porthwynna_is_free.Goals as goal
 
-pub returns-then-answer-lt-YES_OR_NO : goal.returns-then-answer-lt-YES_OR_NO
-returns-then-answer-lt-YES_OR_NO c =
-    free_short _ _ _ c.if-answer-lt-YES_OR_NO.true
+pub returns-in_default : goal.returns-in_default
+returns-in_default c = free_short _ _ _ c.in_default.ensures.cases
 
-pub returns-in-Free : goal.returns-in-Free
-returns-in-Free c =
-    free_call _ _ _ c.if-answer-lt-YES_OR_NO.false c.is_free-tested.ensures c.in-Free.is (search rules)
+pub returns-in-Ok : goal.returns-in-Ok
+returns-in-Ok c = free_call _ _ _ c.in-Some.ensures.cases.enough c.in-Ok.ensures refl (yes_put _ _ c.from.ensures)
 
-pub returns-in-NotFree : goal.returns-in-NotFree
-returns-in-NotFree c =
-    free_call _ _ _ c.if-answer-lt-YES_OR_NO.false c.is_free-tested.ensures c.in-NotFree.is (search rules)
-
-pub returns-in-TextTooLong : goal.returns-in-TextTooLong
-returns-in-TextTooLong c =
-    free_call _ _ _ c.if-answer-lt-YES_OR_NO.false c.is_free-tested.ensures c.in-TextTooLong.is over_none
-
-pub returns-in-WorkTooShort : goal.returns-in-WorkTooShort
-returns-in-WorkTooShort c =
-    free_call _ _ _ c.if-answer-lt-YES_OR_NO.false c.is_free-tested.ensures c.in-WorkTooShort.is over_none
+pub returns-in-Err : goal.returns-in-Err
+returns-in-Err c = free_call _ _ _ c.in-Some.ensures.cases.enough c.in-Err.ensures c.number.ensures (kept c.in-Some.ensures.cases)

@@ -1,32 +1,29 @@
 -- `porthwynna::porthwynna_longest` meets its contract. Assumes nothing.
-use Rattle.porthwynna.proofs.Answers.{over_same, over_none}
+use Rattle.std.proofs.Common.{refl, arith}
+use Rattle.porthwynna.proofs.Answers.{values_put, kept}
 use Rattle.porthwynna.proofs.Calls.{longest_short, longest_call, longest_fits}
 use Rattle.porthwynna.proofs.porthwynna_longest.Goals as goal
 
-pub returns-then-answer-lt-START_AND_HALF : goal.returns-then-answer-lt-START_AND_HALF
-returns-then-answer-lt-START_AND_HALF c =
-    longest_short _ _ _ c.if-answer-lt-START_AND_HALF.true
+pub returns-in_default : goal.returns-in_default
+returns-in_default c = longest_short _ _ _ c.in_default.ensures.cases
 
-pub value_of-start_value-requires : goal.value_of-start_value-requires
-value_of-start_value-requires c =
-    (longest_fits _ _ c.longest-found.ensures c.in-Found.is).0
+pub overflow_cast-values : goal.overflow_cast-values
+overflow_cast-values c =
+    let within = longest_fits _ _ (rw c.in-Ok-Some.field-0-is at c.in-Ok-Some.ensures) in
+    record { fits = omega (arith, within) }
 
-pub value_of-half_value-requires : goal.value_of-half_value-requires
-value_of-half_value-requires c =
-    (longest_fits _ _ c.longest-found.ensures c.in-Found.is).1
+pub overflow_cast-values-in-Ok-Some : goal.overflow_cast-values-in-Ok-Some
+overflow_cast-values-in-Ok-Some c =
+    let within = longest_fits _ _ (rw c.in-Ok-Some.field-0-is at c.in-Ok-Some.ensures) in
+    record { fits = omega (arith, within) }
 
-pub returns-in-Found : goal.returns-in-Found
-returns-in-Found c =
-    longest_call _ _ _ c.if-answer-lt-START_AND_HALF.false c.longest-found.ensures c.in-Found.is (over_same _ c.put_two.ensures c.value_of-start_value.ensures c.value_of-half_value.ensures)
+pub returns-in-Ok-Some : goal.returns-in-Ok-Some
+returns-in-Ok-Some c =
+    longest_call _ _ _ c.in-Some.ensures.cases.enough (rw c.in-Ok-Some.field-0-is at c.in-Ok-Some.ensures) refl (values_put _ refl)
 
-pub returns-in-Nothing : goal.returns-in-Nothing
-returns-in-Nothing c =
-    longest_call _ _ _ c.if-answer-lt-START_AND_HALF.false c.longest-found.ensures c.in-Nothing.is c.put_two-in-Nothing.ensures
+pub returns-in-Ok-None : goal.returns-in-Ok-None
+returns-in-Ok-None c =
+    longest_call _ _ _ c.in-Some.ensures.cases.enough (rw c.in-Ok-None.field-0-is at c.in-Ok-None.ensures) refl (values_put _ refl)
 
-pub returns-in-TextTooLong : goal.returns-in-TextTooLong
-returns-in-TextTooLong c =
-    longest_call _ _ _ c.if-answer-lt-START_AND_HALF.false c.longest-found.ensures c.in-TextTooLong.is over_none
-
-pub returns-in-WorkTooShort : goal.returns-in-WorkTooShort
-returns-in-WorkTooShort c =
-    longest_call _ _ _ c.if-answer-lt-START_AND_HALF.false c.longest-found.ensures c.in-WorkTooShort.is over_none
+pub returns-in-Err : goal.returns-in-Err
+returns-in-Err c = longest_call _ _ _ c.in-Some.ensures.cases.enough c.in-Err.ensures c.number.ensures (kept c.in-Some.ensures.cases)

@@ -1,17 +1,12 @@
 -- `finder::Finder::list` meets its contract. Assumes nothing.
-use Rattle.std.proofs.Common.{sym, ap}
-use Rattle.finder.proofs.Entries.{listing_of, finished_is, full_is, list_promise}
+use Rattle.finder.proofs.Entries.{list_promise, list_finished, list_full}
 use Rattle.finder.proofs.Finder.list.Goals as goal
 
-pub returns-in-TextTooLong : goal.returns-in-TextTooLong
-returns-in-TextTooLong c = list_promise _ _ _ (sym (ap (listing_of _) c.in-TextTooLong.is)) c.search-searched.ensures
+pub returns-in-Err : goal.returns-in-Err
+returns-in-Err c = rw c.from.ensures (list_promise _ _ _ c.in-Err.ensures)
 
-pub returns-in-WorkTooShort : goal.returns-in-WorkTooShort
-returns-in-WorkTooShort c = list_promise _ _ _ (sym (ap (listing_of _) c.in-WorkTooShort.is)) c.search-searched.ensures
+pub returns-then-totals-room : goal.returns-then-totals-room
+returns-then-totals-room c = list_finished _ _ _ c.in-Ok.ensures c.totals-totals.ensures c.if-totals-room.true
 
-pub returns-then-tally-room : goal.returns-then-tally-room
-returns-then-tally-room c =
-    list_promise _ _ _ (finished_is _ _ c.in-Found.is c.if-tally-room.true) c.search-searched.ensures
-
-pub returns-else-tally-room : goal.returns-else-tally-room
-returns-else-tally-room c = list_promise _ _ _ (full_is _ _ c.in-Found.is c.if-tally-room.false) c.search-searched.ensures
+pub returns-else-totals-room : goal.returns-else-totals-room
+returns-else-totals-room c = list_full _ _ _ c.in-Ok.ensures c.totals-totals.ensures c.if-totals-room.false

@@ -1,9 +1,13 @@
--- `listing::output::put_blocks` meets its contract: one line more is put. Assumes nothing.
+-- `listing::output::put_blocks` puts one line more at each step. Assumes nothing.
+use Rattle.std.proofs.Common.{arith}
 use Rattle.listing.proofs.Lines.{no_line_put, next_line_put}
 use Rattle.listing.proofs.output.put_blocks.Goals as goal
 
-pub loop-i-init : goal.loop-i-init
-loop-i-init c = no_line_put _ _ _ _
+pub loop-block-init : goal.loop-block-init
+loop-block-init c = record { puts = no_line_put _; short = omega arith }
 
-pub loop-i-preserved : goal.loop-i-preserved
-loop-i-preserved c = next_line_put c.loop-i.invariant c.loop-i-test.true c.put_block-end.ensures
+pub loop-block-preserved : goal.loop-block-preserved
+loop-block-preserved c = record {
+  puts = next_line_put _ _ _ _ _ c.loop-block-test.true c.loop-block.invariant.puts c.put_block.ensures.puts;
+  short = omega arith;
+}

@@ -1,10 +1,12 @@
--- The lines of the first i blocks are put. The measure is the blocks left.
-use Rattle.std.proofs.Common.{◌-◌}
-use Rattle.listing.proofs.Lines.{Putting}
+-- The lines of the first blocks are put.
+use Rattle.std.proofs.Common.{◌≡◌, ◌+◌, ◌*◌, ◌≤◌, ◌++◌, take}
+use mathlib.Core.List.{flat_map}
+use Rattle.arrayvec.specs.ArrayString.{array_string_len}
+use Rattle.listing.specs.Parts.{numbers_line, line_room}
 use Rattle.listing.proofs.output.put_blocks.Given as goal
 
-abbrev pub invariant-loop-i : goal.invariant-loop-i
-invariant-loop-i l = Putting l.initial.out l.at l.report l.blocks l.i l.end l.out
-
-abbrev pub decreases-loop-i : goal.decreases-loop-i
-decreases-loop-i l = l.blocks - l.i
+abbrev pub invariant-loop-block : goal.invariant-loop-block
+invariant-loop-block l = record {
+  puts : l.out.bytes ≡ l.initial.out.bytes ++ flat_map numbers_line (take l.block-index l.blocks);
+  short : array_string_len l.out ≤ array_string_len l.initial.out + line_room * l.block-index;
+}

@@ -1,8 +1,8 @@
--- `listing::output::put_header` meets its contract. Assumes nothing.
+-- `listing::output::put_header` puts the two counts. Assumes nothing.
+use Rattle.std.proofs.Common.{◌∙◌, append_assoc}
 use Rattle.listing.specs.Output.{header}
-use Rattle.listing.proofs.Puts.{put_more}
 use Rattle.listing.proofs.output.put_header.Goals as goal
 
-pub returns : goal.returns
+pub returns-clause-puts : goal.returns-clause-puts
 unfolding header
-returns c = put_more c.put_count-end.ensures c.put_count.ensures
+returns-clause-puts c = c.put_count-2.ensures.puts ∙ simp (c.put_count.ensures.puts, append_assoc)

@@ -44,7 +44,7 @@ impl fmt::Display for Reply {
     }
 }
 
-// Document 01's number of a refusal.
+// Document 01's number of a refusal, which the lines say by themselves: the finder's replies are types.
 pub trait Numbered {
     fn number(self) -> u8;
 }

@@ -17,7 +17,7 @@ pub struct Part {
 }
 
 // Finds the blocks of a part of two letters or more, and counts its comparisons.
-// Inlined, it would cost the calls for one letter, half of all, what a part needs: 3.6 percent more instructions on prose.
+// Inlined, it would cost the calls for one letter, half of all, what a part needs: 2 percent more instructions on prose.
 #[inline(never)]
 fn find_part(
     letters: &Letters,

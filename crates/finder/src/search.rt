@@ -34,7 +34,7 @@ fn search_letters(text: &[u8], buffer: &mut [u16], work: &mut [u16], report: &mu
     tally
 }
 
-// The same with a buffer of its own, for the longest text.
+// The same with a buffer of its own. There is no heap, so it has room for the longest text.
 fn search_whole(text: &[u8], work: &mut [u16], report: &mut [u16]) -> Tally
     requires { CanSearch text.now work.old }
     ensures { SearchesAll text.now work.old report.old

@@ -14,6 +14,8 @@ use crate::number::Numbered;
 use finder::Finder;
 use finder::reply::{Listing, Totals};
 
+// The exports are written out one by one: a function for all would take each call as a closure over the memory that is lent.
+
 // The list of all repetitions, as blocks in the report. Into the answer: number of blocks K, comparisons C.
 #[unsafe(no_mangle)]
 pub extern "C" fn porthwynna_list(

@@ -9,7 +9,7 @@ ghost use Rattle.tables.specs.Progress.{Walked, Seeking, GoesOn};
 use crate::look;
 use std::cmp;
 
-// So many letters from a place on. Not a slice of them: with slices the list of a text takes 3 to 5 percent more instructions.
+// So many letters from a place on. Not a slice of them: with slices a list takes 2 to 7 percent more instructions.
 #[derive(Clone, Copy)]
 pub struct Piece {
     pub from: usize,

@@ -2,6 +2,7 @@
 ghost use Rattle.std.specs.Prelude.{length};
 ghost use Rattle.std.specs.Iterator.{at_most};
 
+// As a report has it. The finder's own block is not asked: what tries it shares nothing with it.
 #[derive(Clone, Copy)]
 pub struct Block {
     pub half: u16,

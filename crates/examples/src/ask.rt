@@ -21,6 +21,7 @@ pub fn stands(rt: &impl Print, text: Text, start: u64, half: u64) -> io::Result<
     println!(rt; "place in {text}, start {start}, half {half}: {reply}")
 }
 
+// This and the next are two: one for both would take a word, a call and a constructor.
 pub fn is_free(rt: &impl Print, text: Text, work: &mut [u16]) -> io::Result<()> {
     let reply = Reply::from(Finder::is_free(text.bytes(), work).map(Answer::YesOrNo));
     println!(rt;

@@ -7,6 +7,7 @@ pub mod Puts
 pub mod Written
 pub mod Reaches
 pub mod Classes
+pub mod WorkBlocks
 pub mod TableBlocks
 pub mod PartFinds
 pub mod Finds

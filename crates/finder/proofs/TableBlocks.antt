@@ -5,30 +5,28 @@ use mathlib.Core.List.{List, flat_map, reverse}
 use native.Mathlib.Omega.{arith}
 use native.Mathlib.Decide.{dec_le}
 use denote.Bor.{Bor}
-use lib.ListN.{length, get_or, get_or-eq_default, drop, length-drop, drop_of_length-le}
+use lib.ListN.{length, get_or, get_or-eq_default, drop, length-drop}
 use lib.Seq.{length-take-le}
 use Rattle.std.specs.List.{slice_range}
 use Rattle.std.proofs.lemmas.List.{get_or-drop, get_or-take}
 use Rattle.repetition.specs.Numbers.{consecutive}
-use Rattle.repetition.specs.Cutting.{Part, Class, right, left, cut_of}
+use Rattle.repetition.specs.Cutting.{Part, cut_of}
 use Rattle.repetition.specs.Blocks.{class_blocks}
-use Rattle.repetition.specs.Tables.{matched, match_at, left_piece, right_piece}
+use Rattle.repetition.specs.Tables.{match_at, left_piece, right_piece}
 use Rattle.repetition.specs.Reading.{around, read_block, greatest_half}
 use Rattle.repetition.specs.Tables.{v_itself, u_back_itself, v_back_against_u_back, u_against_v}
 use Rattle.repetition.proofs.Lists.{flat_map_each}
 use Rattle.repetition.proofs.Matching.{match_at_is}
 use Rattle.repetition.proofs.Reading.{class_read}
-use Rattle.tables.specs.Parts.{letters, letters_v, with_tables, PartPlaced}
-use Rattle.tables.proofs.Parts.{sizes, length-with_tables, v_itself_entry, u_back_entry, v_back_entry, u_against_entry}
+use Rattle.tables.specs.Parts.{letters, letters_u, letters_v, with_tables, PartPlaced}
+use Rattle.tables.proofs.Parts.{sizes, length-with_tables, v_itself_entry}
 use Rattle.finder.specs.declared.part_tables.PartTables.{PartTables}
 use Rattle.finder.specs.declared.reading.Class.{Class as ClassRead}
 use Rattle.finder.specs.declared.reading.Class.TheVariants.{Right, Left}
 use Rattle.finder.specs.Reading.{StandIn, right_reach, left_reach, cut_reach, most_of}
 use Rattle.finder.specs.Reading.{read_half, read_first, read_all, CanReach, Inside}
-
-abbrev pub class_of : ClassRead → Class
-class_of Right = right
-class_of Left = left
+use Rattle.finder.proofs.WorkBlocks.{class_of}
+use Rattle.finder.proofs.WorkBlocks as in_work
 
 left_low : {b n : ℕ} (a c p e m : ℕ) → e ≡ b → b ≤ n → n ≡ c - a - p → min m e ≤ c - p
 left_low a c p e m is_b within size = omega arith
@@ -104,42 +102,34 @@ module _ (t work : List ℕ) (q : Part) (placed : PartPlaced t work q) where
         ≡ match_at (v_back_against_u_back t q) (length (right_piece t q) - p)
     right_back p one l =
         let z = sizes t work q placed in
-        let i = length T.v_itself.now - p in
-        entry_range tables _ _ i stand.third (omega (arith, table_sizes, z)) {j = letters q + i} (omega arith)
-        ∙ v_back_entry t work q placed i (omega (arith, table_sizes))
-        ∙ ap (match_at (v_back_against_u_back t q)) {x = i} {y = length (right_piece t q) - p}
-        (omega (arith, table_sizes, z))
+        entry_range tables _ _ (length T.v_itself.now - p) stand.third (omega (arith, table_sizes, z))
+        {j = letters q + (letters_v q - p)} (omega (arith, table_sizes))
+        ∙ in_work.right_back t work q placed p one l
 
-    -- at v's whole length there is no entry, and nothing to match
     right_on : (p : ℕ) → 1 ≤ p → get_or T.v_itself.now p 0 ≡ match_at (v_itself t q) p
-    unfolding match_at matched
     right_on p one =
         elim (dec_le (letters_v q) p) [
-          | yes l ↦
-              get_or-eq_default T.v_itself.now 0 (omega (arith, table_sizes))
-              ∙ sym (rw (drop_of_length-le (right_piece t q) {i = p} (omega (arith, sizes t work q placed))))
+          | yes l ↦ get_or-eq_default T.v_itself.now 0 (omega (arith, table_sizes)) ∙ sym (in_work.match_past t work q placed p l)
           | no l ↦
               entry_range tables _ _ p stand.first (omega (arith)) {j = p} (omega arith)
               ∙ v_itself_entry t work q placed p one (omega arith)
         ]
 
-    left_back : (p : ℕ) → 1 ≤ p → p ≤ cut_of q - q.from - 1
+    left_back : (p : ℕ) → 1 ≤ p → p ≤ letters_u q - 1
         → get_or T.u_back_itself.now p 0 ≡ match_at (u_back_itself t q) p
     left_back p one l =
         let z = sizes t work q placed in
         entry_range tables _ _ p stand.second (omega (arith, z)) {j = letters_v q + p} (omega (arith))
-        ∙ u_back_entry t work q placed p one (omega arith)
+        ∙ in_work.left_back t work q placed p one l
 
-    left_on : (p : ℕ) → 1 ≤ p → p ≤ cut_of q - q.from - 1
+    left_on : (p : ℕ) → 1 ≤ p → p ≤ letters_u q - 1
         → get_or T.u_against_v.now (length T.u_back_itself.now - p) 0
         ≡ match_at (u_against_v t q) (length (left_piece t q) - p)
     left_on p one l =
         let z = sizes t work q placed in
-        let i = length T.u_back_itself.now - p in
-        entry_range tables _ _ i stand.fourth (omega (arith, table_sizes, z)) {j = letters q + letters_v q + i}
-        (omega (arith))
-        ∙ u_against_entry t work q placed i (omega (arith, table_sizes, z))
-        ∙ ap (match_at (u_against_v t q)) {x = i} {y = length (left_piece t q) - p} (omega (arith, table_sizes, z))
+        entry_range tables _ _ (length T.u_back_itself.now - p) stand.fourth (omega (arith, table_sizes, z))
+        {j = letters q + letters_v q + (letters_u q - p)} (omega (arith, table_sizes))
+        ∙ in_work.left_on t work q placed p one l
 
     -- ---- each block
 

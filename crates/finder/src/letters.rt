@@ -9,6 +9,7 @@ pub fn write_letters(text: &[u8], letters: &mut [u16])
     ensures { letters.new ≡ both_ways text.now }
 {
     let (forward, backward) = letters.split_at_mut(text.len());
+    // Not a `zip`: the invariant would be about what its iterator still lends, and not about the letters.
     for (i, letter) in text.iter().enumerate() {
         forward[i] = u16::from(*letter);
     }

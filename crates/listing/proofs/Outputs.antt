@@ -41,6 +41,16 @@ module _ (t : List ℕ) where
     unfolding output
     output_full k = rw (le-ltb text_limit (length t) l, lt-leb (length (list_of t)) block_limit k, output)
 
+    -- the blocks of a finished list have room in the report, however long it is
+    pub blocks_inside : {work report : List ℕ} {r : Listing} {work_left report_left : List ℕ}
+        → ListPromise t work report r work_left report_left → (a : Totals) → r ≡ listing.Finished a
+        → a.blocks ≤ length report / numbers_per_block
+    unfolding room
+    blocks_inside {work} {report} {r} {work_left} {report_left} promise a e =
+        let d = demand_2 t work report r work_left report_left promise (ap listing_number e) in
+        let g = (demand_1 t work report r work_left report_left promise).grounds in
+        omega (arith, (totals_are t a (ap listing_values (sym e) ∙ d.values)).0, (g.finished.0 (ap listing_number e)).2)
+
     module _ {work report : List ℕ} {r : Listing} {work_left report_left : List ℕ}
         (promise : ListPromise t work report r work_left report_left) (enough : length work ≡ 2 * text_limit)
         (as_many : length report ≡ numbers_per_block * block_limit) where
@@ -66,9 +76,6 @@ module _ (t : List ℕ) where
 
         fits : length (list_of t) ≤ block_limit
         fits = omega (arith, room_is, (grounds.finished.0 (ap listing_number e)).2)
-
-        pub blocks_fit : a.blocks ≤ block_limit
-        blocks_fit = omega (arith, totals_of.0, fits)
 
         pub finished_output : header a.blocks a.comparisons ++ flat_map line (blocks_in a.blocks report_left) ≡ output t
         finished_output = rw (output_shown fits, shown_is t, totals_of.0, totals_of.1, list_is.blocks)

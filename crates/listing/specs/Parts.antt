@@ -17,9 +17,9 @@ header_room = 46
 abbrev pub output_room : ℕ
 output_room = 36_046
 
--- an output has room for n letters more
-abbrev pub HasRoom : ArrayString → ℕ → Type 0
-HasRoom out n = array_string_len out + n ≤ output_room
+-- an output that holds `capacity` letters at most has room for n letters more
+abbrev pub HasRoom : ℕ → ArrayString → ℕ → Type 0
+HasRoom capacity out n = array_string_len out + n ≤ capacity
 
 -- the line of a block whose numbers stand alone
 abbrev pub numbers_line : List ℕ → List ℕ

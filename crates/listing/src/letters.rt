@@ -15,8 +15,8 @@ const ROOM: usize = 46 + 18 * BLOCK_LIMIT;
 pub type Output = ArrayString<ROOM>;
 
 // Puts a number in decimal, and a word after it. Not by `write!`, whose contract doesn't say that it succeeds where it fits.
-pub fn put_number<N: Integer>(out: &mut Output, value: N, after: &str)
-    requires { HasRoom out.old (N.MAX_STR_LEN + length after.now) }
+pub fn put_number<N: Integer, const CAP: usize>(out: &mut ArrayString<CAP>, value: N, after: &str)
+    requires { HasRoom CAP out.old (N.MAX_STR_LEN + length after.now) }
     ensures puts { out.new.bytes ≡ out.old.bytes ++ (N.text value ++ after.now) }
     ensures short { array_string_len out.new ≤ array_string_len out.old + (N.MAX_STR_LEN + length after.now) }
 {
@@ -25,8 +25,13 @@ pub fn put_number<N: Integer>(out: &mut Output, value: N, after: &str)
 }
 
 // Puts a word, a number after it, and a word after that.
-pub fn put_count(out: &mut Output, before: &str, value: u32, after: &str)
-    requires { HasRoom out.old (length before.now + (count_digits + length after.now)) }
+pub fn put_count<const CAP: usize>(
+    out: &mut ArrayString<CAP>,
+    before: &str,
+    value: u32,
+    after: &str,
+)
+    requires { HasRoom CAP out.old (length before.now + (count_digits + length after.now)) }
     ensures puts { out.new.bytes ≡ out.old.bytes ++ (before.now ++ (decimal value ++ after.now)) }
     ensures short { array_string_len out.new ≤ array_string_len out.old + (length before.now + (count_digits + length after.now)) }
 {

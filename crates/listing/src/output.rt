@@ -6,7 +6,8 @@ ghost use Rattle.listing.specs.Output.{header};
 ghost use Rattle.listing.specs.Promises.{OutputPromise};
 ghost use Rattle.listing.specs.Parts.{numbers_line, HasRoom, line_room, header_room, output_room};
 
-use crate::letters::{BLOCK_LIMIT, Output, put_count, put_number};
+use crate::letters::{BLOCK_LIMIT, put_count, put_number};
+use arrayvec::ArrayString;
 use finder::Finder;
 use finder::reply::{Listing, Totals};
 
@@ -16,8 +17,8 @@ pub const TEXT_LIMIT: usize = 4_096;
 // The numbers of a block, as they stand in a report: half, first start, last start.
 type Numbers = [u16; Finder::NUMBERS_PER_BLOCK];
 
-fn put_block(out: &mut Output, block: &Numbers)
-    requires { HasRoom out.old line_room }
+fn put_block<const CAP: usize>(out: &mut ArrayString<CAP>, block: &Numbers)
+    requires { HasRoom CAP out.old line_room }
     ensures puts { out.new.bytes ≡ out.old.bytes ++ numbers_line block.now }
     ensures short { array_string_len out.new ≤ array_string_len out.old + line_room }
 {
@@ -27,8 +28,8 @@ fn put_block(out: &mut Output, block: &Numbers)
     put_number(out, last, "\n");
 }
 
-fn put_blocks(out: &mut Output, blocks: &[Numbers])
-    requires { HasRoom out.old (line_room * length blocks.now) }
+fn put_blocks<const CAP: usize>(out: &mut ArrayString<CAP>, blocks: &[Numbers])
+    requires { HasRoom CAP out.old (line_room * length blocks.now) }
     ensures { out.new.bytes ≡ out.old.bytes ++ flat_map numbers_line blocks.now }
 {
     for block in blocks {
@@ -36,8 +37,8 @@ fn put_blocks(out: &mut Output, blocks: &[Numbers])
     }
 }
 
-fn put_header(out: &mut Output, totals: Totals)
-    requires { HasRoom out.old header_room }
+fn put_header<const CAP: usize>(out: &mut ArrayString<CAP>, totals: Totals)
+    requires { HasRoom CAP out.old header_room }
     ensures puts { out.new.bytes ≡ out.old.bytes ++ header totals.blocks totals.comparisons }
     ensures short { array_string_len out.new ≤ array_string_len out.old + header_room }
 {
@@ -47,8 +48,8 @@ fn put_header(out: &mut Output, totals: Totals)
 
 // Puts the whole output for a text.
 #[tactic(auto, using(crate::proofs::Outputs::output_too_long))]
-pub fn put_output(text: &[u8], out: &mut Output)
-    requires { HasRoom out.old output_room }
+pub fn put_output<const CAP: usize>(text: &[u8], out: &mut ArrayString<CAP>)
+    requires { HasRoom CAP out.old output_room }
     ensures { OutputPromise text.now out.old.bytes out.new.bytes }
 {
     if TEXT_LIMIT < text.len() {

@@ -62,7 +62,7 @@ pub struct Walk {
 }
 
 // Where a walk stops, at its end or for a scan: the position, how many letters are known to be the same there, and what the walk
-// has cost so far. Not an Option of a position, with the cost beside it: with that, the list of prose takes 2 percent more
+// has cost so far. Not an Option of a position, with the cost beside it: with that, a list over four letters takes 5 percent more
 // instructions.
 #[derive(Clone, Copy)]
 pub struct Stop {

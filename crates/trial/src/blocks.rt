@@ -2,7 +2,7 @@
 ghost use Rattle.std.specs.Prelude.{length};
 ghost use Rattle.std.specs.Iterator.{at_most};
 
-// As a report has it. The finder's own block is not asked: what tries it shares nothing with it.
+// As a report has it, in 16 bits. The finder's own block is private to it, and has other numbers.
 #[derive(Clone, Copy)]
 pub struct Block {
     pub half: u16,

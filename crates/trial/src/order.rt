@@ -10,6 +10,7 @@ enum Turn {
     RightPiece,
 }
 
+// Not the finder's struct, which can't have methods here.
 #[derive(Clone, Copy)]
 struct Repetition {
     start: u16,

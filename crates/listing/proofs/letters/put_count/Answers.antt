@@ -4,5 +4,5 @@ use Rattle.listing.proofs.Decimals.{in_ten_digits}
 use Rattle.listing.proofs.letters.put_count.Goals as goal
 
 pub returns-clause-puts : goal.returns-clause-puts
-returns-clause-puts c =
+returns-clause-puts g c =
     c.put_number.ensures.puts ∙ simp (c.push_str.ensures.bytes, sym (in_ten_digits c.args.value (omega arith)), append_assoc)

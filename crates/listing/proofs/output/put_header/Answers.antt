@@ -5,4 +5,4 @@ use Rattle.listing.proofs.output.put_header.Goals as goal
 
 pub returns-clause-puts : goal.returns-clause-puts
 unfolding header
-returns-clause-puts c = c.put_count-2.ensures.puts ∙ simp (c.put_count.ensures.puts, append_assoc)
+returns-clause-puts g c = c.put_count-2.ensures.puts ∙ simp (c.put_count.ensures.puts, append_assoc)

@@ -52,7 +52,7 @@ pub fn search(text: &[u8], work: &mut [u16], report: &mut [u16]) -> Result<Tally
     let n = text.len();
     Finder::within_limit(n)?;
     let numbers = 2 * n;
-    // A test and a slice: with `get_mut(..numbers).ok_or(..)?` two goals about what the loan leaves stayed open.
+    // A test and a slice: the contract of `get_mut` at a range says nothing of what the whole slice ends as.
     if work.len() < numbers {
         return Err(Refusal::WorkTooShort);
     }

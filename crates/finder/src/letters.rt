@@ -11,8 +11,8 @@ pub fn write_letters(text: &[u8], letters: &mut [u16])
     let (forward, backward) = letters.split_at_mut(text.len());
     // Not a `zip`: the invariant would be about what its iterator still lends, and not about the letters.
     for (i, letter) in text.iter().enumerate() {
-        forward[i] = u16::from(*letter);
+        let letter = u16::from(*letter);
+        forward[i] = letter;
+        backward[text.len() - 1 - i] = letter;
     }
-    backward.copy_from_slice(forward);
-    backward.reverse();
 }

@@ -2,11 +2,12 @@
 ghost use Rattle.std.specs.Prelude.{◌≡◌, ◌&&◌, ◌+◌, ◌*◌, ◌≤◌, leb, length};
 ghost use Rattle.finder.specs.Places.{same_letters};
 
-// Is the half at least 1, and do its two copies end in a text of n letters? In 128 bits no sum wraps.
+// Is the half at least 1, and do its two copies end in a text of n letters? No sum is made that could wrap.
 pub fn is_place(n: usize, start: u64, half: u64) -> bool
     ensures { result ≡ leb 1 half && leb (start + 2 * half) n }
 {
-    1 <= half && u128::from(start) + 2 * u128::from(half) <= n as u128
+    let end = n as u64;
+    1 <= half && start <= end && half <= (end - start) / 2
 }
 
 // Are so many letters the same at two places?

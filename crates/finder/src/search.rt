@@ -35,6 +35,8 @@ fn search_letters(text: &[u8], buffer: &mut [u16], work: &mut [u16], report: &mu
 }
 
 // The same with a buffer of its own. There is no heap, so it has room for the longest text.
+// Inlined, it would have a refused call take the buffer's stack.
+#[inline(never)]
 fn search_whole(text: &[u8], work: &mut [u16], report: &mut [u16]) -> Tally
     requires { CanSearch text.now work.old }
     ensures { SearchesAll text.now work.old report.old

@@ -1,8 +1,9 @@
 -- Numbers in decimal: what the library writes is a number without leading zeros, and how many digits it has. Assumes nothing.
-use Prim.Native.Nat.{ℕ, ◌^◌, ◌<◌}
+use Prim.Native.Nat.{ℕ, ◌^◌, ◌≤◌, ◌<◌}
 use mathlib.Core.Path.{◌≡◌, sym, ap}
 use mathlib.Core.List.{List, [], ◌∷◌, ◌++◌}
 use native.Mathlib.Omega.{arith}
+use lib.ListN.{length}
 use Rattle.std.proofs.Common.{rules}
 use Rattle.std.specs.Fmt.{decimal}
 use Rattle.std.proofs.lemmas.Fmt.{AppendsLastDigit, decimal_from_appends, length-decimal-le}
@@ -12,6 +13,10 @@ use Rattle.listing.specs.Output.{decimal as in_decimal}
 spells : AppendsLastDigit spelled
 unfolding spelled
 spells = search rules
+
+-- a number of 16 bits has five digits at most
+pub five_digits : (n : ℕ) → n < 2 ^ 16 → length (decimal n) ≤ 5
+five_digits n l = length-decimal-le 5 n (omega arith) (omega arith) (omega arith)
 
 pub in_ten_digits : (n : ℕ) → n < 2 ^ 32 → decimal n ≡ in_decimal n
 unfolding in_decimal

@@ -16,7 +16,7 @@ pub type Output = ArrayString<ROOM>;
 
 // Puts a number in decimal, and a word after it. Not by `write!`, whose contract doesn't say that it succeeds where it fits.
 pub fn put_number<N: Integer, const CAP: usize>(out: &mut ArrayString<CAP>, value: N, after: &str)
-    requires { HasRoom CAP out.old (N.MAX_STR_LEN + length after.now) }
+    requires { HasRoom CAP out.old (length (N.text value) + length after.now) }
     ensures puts { out.new.bytes ≡ out.old.bytes ++ (N.text value ++ after.now) }
     ensures short { array_string_len out.new ≤ array_string_len out.old + (N.MAX_STR_LEN + length after.now) }
 {

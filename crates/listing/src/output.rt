@@ -17,6 +17,7 @@ pub const TEXT_LIMIT: usize = 4_096;
 // The numbers of a block, as they stand in a report: half, first start, last start.
 type Numbers = [u16; Finder::NUMBERS_PER_BLOCK];
 
+#[tactic(auto, using(crate::proofs::Decimals::five_digits))]
 fn put_block<const CAP: usize>(out: &mut ArrayString<CAP>, block: &Numbers)
     requires { HasRoom CAP out.old line_room }
     ensures puts { out.new.bytes ≡ out.old.bytes ++ numbers_line block.now }
@@ -30,7 +31,8 @@ fn put_block<const CAP: usize>(out: &mut ArrayString<CAP>, block: &Numbers)
 
 fn put_blocks<const CAP: usize>(out: &mut ArrayString<CAP>, blocks: &[Numbers])
     requires { HasRoom CAP out.old (line_room * length blocks.now) }
-    ensures { out.new.bytes ≡ out.old.bytes ++ flat_map numbers_line blocks.now }
+    ensures puts { out.new.bytes ≡ out.old.bytes ++ flat_map numbers_line blocks.now }
+    ensures short { array_string_len out.new ≤ array_string_len out.old + line_room * length blocks.now }
 {
     for block in blocks {
         put_block(out, block);

@@ -27,7 +27,7 @@ returns-in-Finished g c = record {
       let few = blocks_inside _ (omega arith) c.list.ensures _ c.in-Finished.is in
       let shown = finished_output _ (omega arith) c.list.ensures refl refl _ c.in-Finished.is in
       let lines = lines_in _ _ _ _ c.as_chunks.ensures.front (omega (arith, few)) in
-      c.put_blocks.ensures ∙ ap₂ ◌++◌ c.put_header.ensures.puts lines ∙ rw (append_assoc, shown);
+      c.put_blocks.ensures.puts ∙ ap₂ ◌++◌ c.put_header.ensures.puts lines ∙ rw (append_assoc, shown);
 }
 
 pub returns-in-Full : goal.returns-in-Full

@@ -45,6 +45,22 @@ impl CutPart {
         }
     }
 
+    // Where it begins.
+    pub fn from(self) -> usize
+        ensures place { result ≡ self.from }
+        ensures well_cut { WellCut self }
+    {
+        self.from
+    }
+
+    // Where it ends: the first place that is not in it.
+    pub fn to(self) -> usize
+        ensures place { result ≡ self.to }
+        ensures well_cut { WellCut self }
+    {
+        self.to
+    }
+
     pub fn cut(self) -> usize
         ensures place { result ≡ cut_of self }
         ensures well_cut { WellCut self }

@@ -7,4 +7,4 @@ pub returns-in_err-longest : goal.returns-in_err-longest
 returns-in_err-longest c = search (rules, free_promise _ _ c.in_err-longest.ensures)
 
 pub returns : goal.returns
-returns c = free_answered _ _ c.is_none.ensures c.in_ok-longest.ensures
+returns c = search (rules, free_answered _ _ c.is_none.ensures c.in_ok-longest.ensures)

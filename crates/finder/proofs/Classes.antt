@@ -1,5 +1,5 @@
 -- The blocks of a class, put half by half. Assumes nothing.
-use Prim.Native.Nat.{ℕ, ◌+◌, ◌≤◌}
+use Prim.Native.Nat.{ℕ, ◌+◌, ◌≤◌, ◌<◌}
 use mathlib.Core.Path.{◌≡◌, refl, sym, ap, ◌∙◌}
 use mathlib.Core.List.{List, [], ◌++◌, append-nil, foldl-append, flat_map}
 use native.Mathlib.Omega.{arith}
@@ -12,9 +12,9 @@ use Rattle.finder.specs.declared.tally.Tally.{Tally}
 use Rattle.finder.specs.declared.part_tables.PartTables.{PartTables}
 use Rattle.finder.specs.declared.reading.Class.{Class}
 use Rattle.finder.specs.Kept.{Kept, kept, put, put_all}
-use Rattle.finder.specs.Reading.{most_of, read_half, read_first}
+use Rattle.finder.specs.Reading.{most_of, read_half, read_first, read_all}
 use Rattle.finder.specs.Reading.{CanReach, CanPutHalf, CanReadAll}
-use Rattle.finder.proofs.Puts.{blocks_put_all}
+use Rattle.finder.proofs.Puts.{length-put_all, blocks_put_all}
 
 module _ (T : PartTables) (κ : Class) where
   read_none : read_first T κ 0 ≡ []
@@ -47,6 +47,11 @@ module _ (T : PartTables) (κ : Class) where
     put_starts = record { halves = 0; next = refl; most = omega arith; puts = sym (ap (put_all (kept report₀ y₀)) read_none) }
 
     module _ (can : CanReadAll T κ y₀) {half : ℕ} {report : List ℕ} {y : Tally} (so_far : Put half report y) where
+      pub put_length : length report ≡ length report₀
+      put_length =
+          ap (λ (k : Kept). length k.report) so_far.puts
+          ∙ length-put_all (kept report₀ y₀) (read_first T κ so_far.halves)
+
       put_blocks : y.blocks ≤ y₀.blocks + so_far.halves
       put_blocks =
           let bs = read_first T κ so_far.halves in
@@ -70,3 +75,8 @@ module _ (T : PartTables) (κ : Class) where
                 f ∙ rw (so_far.puts, so_far.next, read_next n)
                 (sym (foldl-append put (kept report₀ y₀) (read_first T κ n) _));
           }
+
+      pub put_ends : most_of T κ < half → kept report y ≡ put_all (kept report₀ y₀) (read_all T κ)
+      put_ends l =
+          so_far.puts
+          ∙ ap (λ (m : ℕ). put_all (kept report₀ y₀) (read_first T κ m)) {x = so_far.halves} {y = most_of T κ} (omega arith)

@@ -208,7 +208,7 @@ module _ (t : List ℕ) (s p : ℕ) where
               ]
             ]
 
-    place_within : fits ≡ true → (1 ≤ p) × (s + 2 * p ≤ length t)
+    pub place_within : fits ≡ true → (1 ≤ p) × (s + 2 * p ≤ length t)
     place_within e =
         let h = (and-eq-true_iff (leb 1 p) (leb (s + 2 * p) (length t))).0 (sym is ∙ e) in
         (leb-true 1 p h.0, leb-true (s + 2 * p) (length t) h.1)

@@ -17,7 +17,7 @@ use Rattle.tables.proofs.Parts.{length-with_tables}
 use Rattle.finder.specs.declared.tally.Tally.{Tally}
 use Rattle.finder.specs.Kept.{Kept, kept, compared, found, found_all}
 use Rattle.finder.specs.Finding.{tables_left, letters_in, HasRoom, CanFindPart, CanFind, Finds}
-use Rattle.finder.proofs.Puts.{blocks_put_all, comparisons_put_all}
+use Rattle.finder.proofs.Puts.{length-put_all, blocks_put_all, comparisons_put_all}
 
 -- ---- a fold over the parts: nothing for a small part, else the part, its left piece and its right piece
 
@@ -81,6 +81,16 @@ grown_all t =
 
 -- ---- lengths
 
+length-found_all : (t : List ℕ) (k : Kept) (qs : List Part) → length (found_all t k qs).report ≡ length k.report
+unfolding found
+length-found_all t k [] = refl
+length-found_all t k (q ∷ qs) = length-found_all t (found t k q) qs ∙ length-put_all _ (part_blocks t q)
+
+pub report_kept : {t work report work_left report_left : List ℕ} {qs : List Part} {y r : Tally}
+    → Finds t work report qs y r work_left report_left → length report_left ≡ length report
+report_kept {t = t} {report = report} {qs = qs} {y = y} f =
+    ap (λ (k : Kept). length k.report) f.keeps ∙ length-found_all t (kept report y) qs
+
 length-tables_left : (t : List ℕ) → length t ≤ length_limit → (a b : ℕ) → b ≤ length t → (work : List ℕ)
     → 2 * (b - a) ≤ length work → length (tables_left t work (parts a b)) ≡ length work
 length-tables_left t limit =
@@ -102,9 +112,15 @@ found_none t k a b l = none_over (found t) k a b l
 pub tables_none : (t work : List ℕ) (a b : ℕ) → b - a < 2 → tables_left t work (parts a b) ≡ work
 tables_none t work a b l = none_over (λ w q. with_tables t q w) work a b l
 
+pub none_found : {t work report : List ℕ} {y : Tally} (a b : ℕ) → b - a < 2 → Finds t work report (parts a b) y y work report
+none_found a b l = record { keeps = sym (found_none _ _ a b l); leaves_work = sym (tables_none _ _ a b l) }
+
 -- ---- the way from a part to its pieces
 
 module _ (t work : List ℕ) (from to : ℕ) (y : Tally) (can : CanFind t work from to y) where
+  pub length_left : length (tables_left t work (parts from to)) ≡ length work
+  length_left = length-tables_left t can.limit from to can.inside work can.room
+
   module _ (wide : 2 ≤ to - from) where
     whole_part : CanFindPart t work (part from to) y
     whole_part =

@@ -11,6 +11,7 @@ pub mod WorkBlocks
 pub mod TableBlocks
 pub mod PartFinds
 pub mod Finds
+pub mod Clearing
 pub mod Searches
 pub mod Depths
 pub mod Places

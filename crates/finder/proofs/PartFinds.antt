@@ -6,7 +6,7 @@ use native.Mathlib.Omega.{arith}
 use lib.ListN.{length}
 use Rattle.repetition.specs.Cutting.{Part, right, left}
 use Rattle.repetition.specs.Blocks.{class_blocks, part_blocks}
-use Rattle.tables.specs.Parts.{letters, with_tables}
+use Rattle.tables.specs.Parts.{letters, with_tables, CanFillPart}
 use Rattle.tables.specs.Promises.{TablesPromise}
 use Rattle.tables.proofs.Parts.{sizes, length-with_tables}
 use Rattle.finder.specs.declared.tally.Tally.{Tally}
@@ -20,6 +20,9 @@ use Rattle.finder.proofs.Classes.{read_size}
 use Rattle.finder.proofs.TableBlocks.{table_sizes, class_is, inside}
 
 module _ (t work : List ℕ) (q : Part) (y : Tally) (can : CanFindPart t work q y) where
+  pub can_fill : CanFillPart t work q y.comparisons
+  can_fill = record { placed = can.placed; fits = can.counts.comparisons_fit }
+
   module _ {count : ℕ} {tables : List ℕ} (filled : TablesPromise t work q y.comparisons count tables) where
     pub can_read : 2 * letters q ≤ length tables
     can_read = rw (filled.leaves_work, length-with_tables t work q can.placed) can.placed.room

@@ -1,18 +1,28 @@
 -- The test of one place. Assumes nothing.
-use Prim.Native.Nat.{ℕ, ◌+◌, ◌-◌, ◌≤◌, ◌<◌}
+use Prim.Native.Nat.{ℕ, ◌+◌, ◌-◌, ◌*◌, ◌≤◌, ◌<◌}
 use mathlib.Core.Path.{◌≡◌, sym, ap, ◌∙◌}
-use mathlib.Core.Bool.{Bool}
+use mathlib.Core.Bool.{Bool, false, ◌&&◌}
 use mathlib.Core.List.{List}
 use native.Mathlib.Omega.{arith}
-use borrow.Author.Tests.{eq-eqb, eqb-true}
+use borrow.Author.Tests.{le-leb, lt-leb, eq-eqb, eqb-true}
 use lib.ListN.{length, get_or, take, drop, length-drop}
 use Rattle.std.proofs.lemmas.List.{get_or-drop, get_or-take}
-use lib.Dec.{eqb}
+use lib.Dec.{eqb, leb}
 use lib.Pointwise.{pointwise}
 use lib.Seq.{length-take-le, ext_get_or}
 use Rattle.std.proofs.lemmas.Slice.Eq.{bytes_eq-Decides}
 use Rattle.repetition.proofs.Lists.{same_test, each_below_at, each_below_true}
 use Rattle.finder.specs.Places.{same_letters}
+
+-- ---- a place in a text of n letters
+
+pub no_half : (n s p : ℕ) → p ≡ 0 → false ≡ leb 1 p && leb (s + 2 * p) n
+no_half n s p e = rw e
+
+pub starts_past : (n s p : ℕ) → (p ≡ 0 → ⊥) → n < s → false ≡ leb 1 p && leb (s + 2 * p) n
+starts_past n s p f l = rw (le-leb 1 p (omega arith), lt-leb (s + 2 * p) n (omega arith))
+
+-- ---- letters that are the same
 
 -- so many letters from a place on
 abbrev from_on : List ℕ → ℕ → ℕ → List ℕ

@@ -111,6 +111,9 @@ module _ (t work : List ℕ) (l : length t ≤ length_limit) (m : 2 * length t �
   first_part : 2 * length t ≡ length (take (2 * length t) work)
   first_part = sym (length-take-le (2 * length t) work m)
 
+  pub can_search : CanSearch t (take (2 * length t) work)
+  can_search = record { limit = l; room = omega (arith, first_part) }
+
   cleared_is : {work' : List ℕ} → work' ≡ replicate (length (take (2 * length t) work)) 0
       → work' ++ drop (2 * length t) work ≡ cleared (length t) work
   unfolding cleared over

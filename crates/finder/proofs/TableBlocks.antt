@@ -157,6 +157,10 @@ module _ (t work : List ℕ) (q : Part) (placed : PartPlaced t work q) where
         ∙ ap (λ (n : ℕ). flat_map (read_block t (class_of κ) q) (consecutive 1 n)) (most_is κ)
         ∙ sym (class_read t q placed.wide placed.inside (class_of κ))
 
+    -- from the tables as from the numbers of the work space in which they stand
+    pub work_is : (κ : ClassRead) → in_work.read_all tables q κ ≡ read_all T κ
+    work_is κ = in_work.class_in_work t work q placed κ ∙ sym (class_is κ)
+
     -- what the reading needs
     pub inside : (κ : ClassRead) (p : ℕ) → CanReach T κ p → Inside (cut_reach T κ p)
     unfolding right_reach left_reach

@@ -2,13 +2,15 @@
 -- 01, "The four tables of a part". Assumes nothing.
 use Prim.Native.Nat.{ℕ, ◌+◌, ◌-◌, ◌≤◌, min}
 use mathlib.Core.Path.{◌≡◌, sym, ap, ap₂, ◌∙◌}
-use mathlib.Core.Bool.{cond}
+use mathlib.Core.Bool.{Bool, true, false, cond}
 use mathlib.Core.List.{List, flat_map}
 use native.Mathlib.Omega.{arith}
 use native.Mathlib.Decide.{dec_le}
 use borrow.Author.Tests.{lt-ltb, le-ltb}
 use lib.Dec.{ltb}
 use lib.ListN.{length, get_or, drop_of_length-le}
+use mir.Syntax.{w16, w64}
+use mir.Val.{Fits}
 use Rattle.repetition.specs.Numbers.{consecutive}
 use Rattle.repetition.specs.Cutting.{Part, Class, right, left, cut_of}
 use Rattle.repetition.specs.Blocks.{Block, class_blocks}
@@ -63,6 +65,21 @@ read_first work q κ n = flat_map (read_half work q κ) (consecutive 1 n)
 
 abbrev pub read_all : List ℕ → Part → ClassRead → List Block
 read_all work q κ = read_first work q κ (most_of q κ)
+
+-- ---- two numbers of 16 bits add up to one of 64
+
+cond_below : (b : Bool) (x : ℕ) → cond b x 0 ≤ x
+cond_below true x = omega arith
+cond_below false x = omega arith
+
+pub reach_fits : (work : List ℕ) (q : Part) (κ : ClassRead) (p : ℕ) → ((i : ℕ) → Fits w16 (get_or work i 0))
+    → {r : Reach} → r ≡ reach_of work q κ p → Fits w64 (r.back + r.on)
+unfolding right_reach left_reach
+reach_fits work q Right p short e =
+    rw e
+    (omega (arith, short (letters q + (letters_v q - p)), short p, cond_below (ltb p (letters_v q)) (get_or work p 0)))
+reach_fits work q Left p short e =
+    rw e (omega (arith, short (letters_v q + p), short (letters q + letters_v q + (letters_u q - p))))
 
 module _ (t work : List ℕ) (q : Part) (placed : PartPlaced t work q) where
   abbrev tables : List ℕ

@@ -4,4 +4,5 @@ pub mod Determined
 pub mod Examples
 pub mod Decimals
 pub mod Lines
+pub mod Puts
 pub mod Outputs

@@ -4,11 +4,12 @@ use mathlib.Core.Path.{◌≡◌, refl, sym, ap, ◌∙◌}
 use mathlib.Core.List.{List, ◌++◌, flat_map}
 use native.Mathlib.Omega.{arith}
 use lib.ListN.{length}
+use lib.Seq.{sets, sets-eq}
 use borrow.Author.Tests.{le-leb, lt-leb, lt-ltb, le-ltb}
 use Rattle.repetition.specs.Blocks.{list_of}
 use Rattle.repetition.specs.Comparisons.{comparisons}
 use Rattle.repetition.specs.Limits.{numbers_per_block}
-use Rattle.repetition.specs.Memory.{room, blocks_in}
+use Rattle.repetition.specs.Memory.{room, over, blocks_in}
 use Rattle.finder.specs.declared.reply.Totals.{Totals}
 use Rattle.finder.specs.declared.reply.Listing.{Listing}
 use Rattle.finder.specs.declared.reply.Listing.TheVariants as listing
@@ -77,6 +78,9 @@ module _ (t : List ℕ) where
         fits : length (list_of t) ≤ block_limit
         fits = omega (arith, room_is, (grounds.finished.0 (ap listing_number e)).2)
 
+        pub blocks_fit : a.blocks ≤ block_limit
+        blocks_fit = omega (arith, fits, totals_of.0)
+
         pub finished_output : header a.blocks a.comparisons ++ flat_map line (blocks_in a.blocks report_left) ≡ output t
         finished_output = rw (output_shown fits, shown_is t, totals_of.0, totals_of.1, list_is.blocks)
 
@@ -85,3 +89,12 @@ module _ (t : List ℕ) where
           let f = grounds.full.0 (ap listing_number e) in
           let v = ((demand_1 t work report r work_left report_left promise).leading (ap listing_number e)).values in
           rw (output_full (omega (arith, room_is, f.2)), (totals_are t a (ap listing_values (sym e) ∙ v)).0)
+
+-- ---- a longer text's output, put over what a buffer holds
+
+pub over_refused : (t out : List ℕ) → text_limit < length t → 10 ≤ length out → over (output t) out ≡ sets out 0 refused_1
+unfolding over
+over_refused t out l m = rw (output_too_long t l) (sym (sets-eq refused_1 out 0 m))
+
+pub size_refused : (t : List ℕ) → text_limit < length t → length (output t) ≡ 10
+size_refused t l = ap length (output_too_long t l)

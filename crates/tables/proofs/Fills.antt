@@ -22,7 +22,7 @@ use Rattle.tables.specs.Walks.{table_of, knowing, with_entry, with_table, Own, t
 use Rattle.tables.specs.Progress.{up_to, partly, Filled, Walked, Seeking, Stopped, Further}
 use Rattle.tables.proofs.Letters.{length-read}
 use Rattle.tables.proofs.Walks.{length_walked, tells, cost_fits, asks, can_read, free_next, stop_there}
-use Rattle.tables.proofs.Walks.{Passed, passed, stop_at_match}
+use Rattle.tables.proofs.Walks.{Passed, passed, stop_at_match, stop_at_end}
 use Rattle.tables.proofs.Filled.{partly_none, partly_next}
 
 -- ---- how far a work space has come
@@ -94,11 +94,15 @@ module _ (s work : List ℕ) (a : TableAt) (i : ℕ) (f : Filled s work a i) (l 
 -- ---- a walk that no record helps
 
 module _ (s work : List ℕ) (a : TableAt) (i cost : ℕ) (k : Seeking s work a i cost) where
+  pub seek_ends : a.walked.size ≤ i → Stopped s work a (record { i = i; known = 0; cost = cost })
+  seek_ends end = rw k.so_far (stop_at_end s work a i k.filled end)
+
   module _ (l : i < a.walked.size) where
-    -- What the look at this position needs.
+    -- What the look and the store at this position need.
     pub record Looks : Type 0 where
       pub walked_inside : a.walked.from + i < length s
       pub pattern_inside : a.pattern.from < length s
+      pub entry_inside : a.at + i < length work
       pub fits : cost + 1 < 2 ^ 32
 
     pub seek_looks : Looks
@@ -133,6 +137,15 @@ module _ (s work : List ℕ) (a : TableAt) (i cost : ℕ) (k : Seeking s work a 
 -- ---- a walk whose record reaches position i
 
 module _ (s work : List ℕ) (a : TableAt) (i : ℕ) (w : Walk) (k : Walked s work a i w) where
+  -- It does not any more.
+  pub follow_ends : w.e ≤ i → Seeking s work a i w.cost
+  follow_ends end =
+      record {
+        filled = k.filled;
+        unreached = rw (← k.walk) end;
+        so_far = ap (λ (v : Walk). v.cost) k.walk;
+      }
+
   module _ (l : i < w.e) where
     follow_inside : i < a.walked.size
     follow_inside = omega (arith, asks s work a i k.filled w k.walk l)
@@ -229,6 +242,17 @@ module _ (s work₀ : List ℕ) (a : TableAt) (count : ℕ) (can : CanFill s wor
           can.fits,
           table_cost_bound (table_of s a) (omega (arith, can.placed.pieces)),
         )
+
+  -- A table without a position is filled as it stands.
+  pub fills_none : a.walked.size ≤ a.first → Fills s work₀ a count count work₀
+  unfolding with_table partly table_cost after
+  fills_none none =
+      let walked = length_walked s a can.placed.pieces in
+      let no_cost = ap (λ (n : ℕ). (after (table_of s a) n).cost) {x = 0} {y = length (table_of s a).walked - a.first} (omega arith) in
+      record {
+        counts = omega (arith, no_cost);
+        leaves_work = partly_none (table_of s a) a.at (length (table_of s a).walked) work₀ (omega arith);
+      }
 
 -- The table of a piece of one letter against itself has no position: it costs nothing, and nothing is put in the work space.
 module _ (s : List ℕ) (p : Piece) (lies : p.from + p.size ≤ length s) (short : p.size < 2) where

@@ -1,7 +1,7 @@
 -- One position of a walk over a table that is placed in the work space: what a scan and a look find there, and what the work
 -- space tells of it. Assumes nothing.
 use Prim.Native.Nat.{ℕ, suc, ◌+◌, ◌-◌, ◌*◌, ◌^◌, ◌≤◌, ◌<◌, min}
-use mathlib.Core.Path.{◌≡◌, sym, ap, ◌∙◌}
+use mathlib.Core.Path.{◌≡◌, refl, sym, ap, ◌∙◌}
 use mathlib.Core.Bool.{Bool, true, false, ◌&&◌, and-eq-true_iff}
 use mathlib.Core.List.{List}
 use native.Mathlib.Nat.{add-zero}
@@ -289,3 +289,13 @@ module _ (s work : List ℕ) (a : TableAt) (i : ℕ) (f : Filled s work a i) whe
           };
           scans = λ _. look_first (table_of s a) i (up_to (table_of s a) i) unreached one ∙ sym seeks_next;
         }
+
+  -- at the end
+  pub stop_at_end : a.walked.size ≤ i → Stopped s work a (record { i = i; known = 0; cost = (up_to (table_of s a) i).cost })
+  stop_at_end end =
+      record {
+        filled = f;
+        ended = λ _. refl;
+        scannable = λ l. absurd (omega arith);
+        scans = λ l. absurd (omega arith);
+      }
